@@ -1,0 +1,4 @@
+pub mod Forms
+pub mod Content
+pub mod Sections
+pub mod Whole

@@ -1,0 +1,4 @@
+pub mod Fields
+pub mod Tokens
+pub mod Lines
+pub mod Layouts
