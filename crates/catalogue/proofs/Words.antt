@@ -20,22 +20,22 @@ use Rattle.catalogue.specs.declared.entries.Call.the-variants.{Choose, Back, C
 use Rattle.catalogue.specs.declared.entries.Kind.{Kind}
 use Rattle.catalogue.specs.declared.entries.Kind.the-variants.{Bit, Column}
 use Rattle.catalogue.specs.declared.entries.One.{One}
-use Rattle.catalogue.specs.Forms.{Plain, Some-plain, Lawful, Said, Unsaid}
-use Rattle.catalogue.specs.Content.{kindFields, kindForm, oneForm, Named, featureForm, callWord, callNumbers, callForm}
+use Rattle.catalogue.specs.Forms.{Plain, Lawful, Said, Unsaid}
+use Rattle.catalogue.specs.Content.{kindName, kindForm, oneForm, Named, featureForm, callWord, callNumbers, callForm}
 use Rattle.catalogue.proofs.Numbers.{Row-of, No-row-of, elements, plain-number, plain-numbers, same-number, same-numbers}
 
-kind-plain : (k : Kind) → Some-plain (kindFields k)
+kind-plain : (k : Kind) → Plain (kindName k)
 kind-plain Bit = search needs
 kind-plain Column = search needs
 
-kind-one : (k l : Kind) → kindFields k ≡ kindFields l → k ≡ l
+kind-one : (k l : Kind) → kindName k ∷ [] ≡ kindName l ∷ [] → k ≡ l
 kind-one Bit Bit e = refl
 kind-one Bit Column e = absurd (let z : _≡_ {A = ℕ} 66 67 = cc in omega arith)
 kind-one Column Bit e = absurd (let z : _≡_ {A = ℕ} 67 66 = cc in omega arith)
 kind-one Column Column e = refl
 
 pub kind-lawful : Lawful kindForm
-kind-lawful = record { example = Bit; example-good = tt; plain = λ k ok. kind-plain k; one = λ k l okk okl e. kind-one k l e }
+kind-lawful = record { example = Bit; example-good = tt; plain = λ k ok. (kind-plain k, tt); one = λ k l okk okl e. kind-one k l e }
 
 pub one-lawful : Lawful oneForm
 one-lawful = record { example = record {}; example-good = tt; plain = λ o ok. (plain-number 1 (omega arith), tt); one = λ o p oko okp e. refl }

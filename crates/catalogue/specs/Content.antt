@@ -19,12 +19,12 @@ use Rattle.catalogue.specs.Forms.{Form, lineOf, numbersForm, numberForm}
 use Rattle.catalogue.specs.Sections.{sectionLines}
 
 -- line 1: the form of the diagram
-abbrev pub kindFields : Kind → List (List ℕ)
-kindFields Bit = codes "B" ∷ []
-kindFields Column = codes "C" ∷ []
+abbrev pub kindName : Kind → List ℕ
+kindName Bit = codes "B"
+kindName Column = codes "C"
 
 abbrev pub kindForm : Form Kind
-kindForm = record { Value = Kind; Good = λ k. Unit {0}; fields = kindFields; entry = λ at k. k }
+kindForm = record { Value = Kind; Good = λ k. Unit {0}; fields = λ k. kindName k ∷ []; entry = λ at k. k }
 
 -- the count of the section that has one entry, the start
 abbrev pub oneForm : Form One
