@@ -24,7 +24,10 @@ pub impl fmt::Display for Report as ReportDisplay {
                 let records = contents.records;
                 let prices = contents.prices;
                 let calls = contents.calls;
-                write!(f, "kind {kind}\nfeatures {features}\nrecords {records}\nprices {prices}\ncalls {calls}")
+                write!(
+                    f,
+                    "kind {kind}\nfeatures {features}\nrecords {records}\nprices {prices}\ncalls {calls}"
+                )
             }
             Err(fault) => write!(f, "{fault}"),
         }

@@ -47,3 +47,24 @@ pub fn survey(text: &[u8]) -> Result<Contents, Fault>
         &mut calls,
     )
 }
+
+#[cfg(test)]
+mod tests {
+    use super::survey;
+    use catalogue::entries::ContentsDebug;
+    use catalogue::entries::ContentsPartialEq;
+    use fault::Fault;
+    use fault::FaultDebug;
+    use fault::FaultPartialEq;
+    use std::test::*;
+
+    // A text of 16,384 bytes is read, and refused for what it says; one more is refused unread.
+    #[test]
+    fn limit() -> Result<(), Fail> {
+        check_eq(survey(&[b'B'; 16384]), Err(Fault::TextEnd { line: 1 }))?;
+        check_eq(
+            survey(&[b'B'; 16385]),
+            Err(Fault::TableTooSmall { line: 0 }),
+        )
+    }
+}
