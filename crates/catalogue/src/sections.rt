@@ -40,7 +40,8 @@ pub(crate) fn section<R: Row>(reader: &mut Reader<'_>, table: &mut [R]) -> Resul
 {
     let n = count(reader, table.len())?;
     for i in 0..n {
-        table[i] = entry::<R>(reader)?;
+        let row = entry::<R>(reader)?;
+        table[i] = row;
     }
     Ok(n)
 }

@@ -5,6 +5,7 @@ use crate::reading::NO_CALL;
 use crate::reading::NO_COLUMN;
 use crate::reading::NO_FEATURE;
 use crate::reading::read_in;
+use crate::reading::refused;
 use catalogue::entries::Call;
 use catalogue::entries::CallDebug;
 use catalogue::entries::CallPartialEq;
@@ -24,9 +25,7 @@ use diagram::BitNodePartialEq;
 use diagram::ColumnNode;
 use diagram::ColumnNodeDebug;
 use diagram::ColumnNodePartialEq;
-use fault::Fault;
 use fault::FaultDebug;
-use fault::FaultPartialEq;
 use std::test::*;
 
 // The example, into tables that have one entry more than it needs.
@@ -155,10 +154,7 @@ fn columns() -> Result<(), Fail> {
 fn cut() -> Result<(), Fail> {
     let mut line = 1;
     for (i, b) in EXAMPLE.iter().enumerate() {
-        check_eq(
-            read_in(&EXAMPLE[0..i], 8, 8, 8, 8),
-            Err(Fault::TextEnd { line }),
-        )?;
+        refused(read_in(&EXAMPLE[0..i], 8, 8, 8, 8), 16, line)?;
         if *b == b'\n' && line < 30 {
             line += 1;
         }
@@ -170,22 +166,10 @@ fn cut() -> Result<(), Fail> {
 #[test]
 fn rooms() -> Result<(), Fail> {
     check(read_in(EXAMPLE, 3, 3, 7, 3).is_ok())?;
-    check_eq(
-        read_in(EXAMPLE, 2, 3, 7, 3),
-        Err(Fault::TableTooSmall { line: 2 }),
-    )?;
-    check_eq(
-        read_in(EXAMPLE, 3, 2, 7, 3),
-        Err(Fault::TableTooSmall { line: 6 }),
-    )?;
-    check_eq(
-        read_in(EXAMPLE, 3, 3, 6, 3),
-        Err(Fault::TableTooSmall { line: 12 }),
-    )?;
-    check_eq(
-        read_in(EXAMPLE, 3, 3, 7, 2),
-        Err(Fault::TableTooSmall { line: 20 }),
-    )
+    refused(read_in(EXAMPLE, 2, 3, 7, 3), 17, 2)?;
+    refused(read_in(EXAMPLE, 3, 2, 7, 3), 17, 6)?;
+    refused(read_in(EXAMPLE, 3, 3, 6, 3), 17, 12)?;
+    refused(read_in(EXAMPLE, 3, 3, 7, 2), 17, 20)
 }
 
 // What was read before a refusal stays, and nothing later is written.
@@ -197,17 +181,15 @@ fn stays() -> Result<(), Fail> {
     let mut prices = [77; 1];
     let mut calls = [NO_CALL; 1];
     let text = b"B\n1\na 5\n3\n1 2 3\n4 5 6\n7 8\n1\n2\n1\n9\n0\n";
-    check_eq(
-        read(
-            text,
-            &mut features,
-            &mut bits,
-            &mut columns,
-            &mut prices,
-            &mut calls,
-        ),
-        Err(Fault::IllFormedLine { line: 7 }),
-    )?;
+    let answer = read(
+        text,
+        &mut features,
+        &mut bits,
+        &mut columns,
+        &mut prices,
+        &mut calls,
+    );
+    refused(answer, 15, 7)?;
     check_eq(features, [feature(4, 1, 5), NO_FEATURE])?;
     check_eq(bits, [bit(1, 2, 3), bit(4, 5, 6), NO_BIT])?;
     check_eq(columns[0], NO_COLUMN)?;

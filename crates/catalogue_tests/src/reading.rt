@@ -6,6 +6,7 @@ use catalogue::whole::read;
 use diagram::BitNode;
 use diagram::ColumnNode;
 use fault::Fault;
+use std::test::*;
 
 pub const NO_FEATURE: Feature = Feature {
     place: 77,
@@ -57,4 +58,16 @@ pub fn read_in(
         &mut price_table[0..prices],
         &mut call_table[0..calls],
     )
+}
+
+// Holds an answer to a refusal with this number and line, and with place 0.
+pub fn refused(answer: Result<Contents, Fault>, number: u32, line: usize) -> Result<(), Fail> {
+    match answer {
+        Ok(_) => Err(Fail::new("accepted")),
+        Err(fault) => {
+            check_eq(fault.number(), number)?;
+            check_eq(fault.line(), line)?;
+            check_eq(fault.place(), 0)
+        }
+    }
 }

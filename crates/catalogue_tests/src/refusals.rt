@@ -1,5 +1,6 @@
 // Each kind of line, broken in each way, with the question that says no and the line.
 use crate::reading::read_in;
+use crate::reading::refused;
 use std::test::*;
 
 // A text, and the number and the line of the fault that it has to have with tables of two entries each.
@@ -8,14 +9,7 @@ type Case = (&'static [u8], u32, usize);
 fn hold(cases: &[Case]) -> Result<(), Fail> {
     for case in cases {
         let (text, number, line) = *case;
-        match read_in(text, 2, 2, 2, 2) {
-            Ok(_) => return Err(Fail::new("accepted")),
-            Err(fault) => {
-                check_eq(fault.number(), number)?;
-                check_eq(fault.line(), line)?;
-                check_eq(fault.place(), 0)?;
-            }
-        }
+        refused(read_in(text, 2, 2, 2, 2), number, line)?;
     }
     Ok(())
 }

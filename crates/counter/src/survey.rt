@@ -51,20 +51,36 @@ pub fn survey(text: &[u8]) -> Result<Contents, Fault>
 #[cfg(test)]
 mod tests {
     use super::survey;
-    use catalogue::entries::ContentsDebug;
-    use catalogue::entries::ContentsPartialEq;
-    use fault::Fault;
-    use fault::FaultDebug;
-    use fault::FaultPartialEq;
+    use crate::report::Report;
+    use crate::report::ReportDisplay;
+    use std::alloc::Global;
     use std::test::*;
+
+    // What the program prints of a text.
+    fn hold(heap: Global, text: &[u8], printed: &str) -> Result<(), Fail> {
+        let report = Report {
+            found: survey(text),
+        };
+        check_eq(report.to_string(heap)?.as_str(), printed)
+    }
 
     // A text of 16,384 bytes is read, and refused for what it says; one more is refused unread.
     #[test]
-    fn limit() -> Result<(), Fail> {
-        check_eq(survey(&[b'B'; 16384]), Err(Fault::TextEnd { line: 1 }))?;
-        check_eq(
-            survey(&[b'B'; 16385]),
-            Err(Fault::TableTooSmall { line: 0 }),
+    fn limit(rt: LibcRuntime) -> Result<(), Fail> {
+        hold(rt.alloc(), &[b'B'; 16384], "fault 16 file 0 1")?;
+        hold(rt.alloc(), &[b'B'; 16385], "fault 17 file 0 0")
+    }
+
+    // One feature more than there is room for; a line that is wrong; a column catalogue.
+    #[test]
+    fn prints(rt: LibcRuntime) -> Result<(), Fail> {
+        hold(rt.alloc(), b"B\n25\n", "fault 17 file 0 2")?;
+        hold(rt.alloc(), b"B\n0\n65\n", "fault 17 file 0 3")?;
+        hold(rt.alloc(), b"B\n1\nA 1\n", "fault 15 file 0 3")?;
+        hold(
+            rt.alloc(),
+            b"C\n1\na 1\n1\n0 0 1 0\n1\n2\n1\n5\n1\nlift\n",
+            "kind C\nfeatures 1\nrecords 1\nprices 1\ncalls 1",
         )
     }
 }

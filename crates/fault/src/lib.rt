@@ -27,7 +27,7 @@ pub impl fmt::Display for Layer as LayerDisplay {
 // What is wrong. Each case answers no to one numbered question (`specs/Told.antt` has the numbers, layers, places and
 // lines), and holds just the values that its place and its line need: the index of a feature or of a record, and the
 // line of the catalogue, counted from 1 (0 where there is no catalogue).
-#[derive(Clone, Copy, Debug, PartialEq)]
+#[derive(Clone, Copy, Debug)]
 pub enum Fault {
     // There are no features, or too many.
     BadFeatureCount { line: usize },

@@ -6,6 +6,9 @@ ghost use Rattle.std.specs.Options.{Cases as BySome};
 ghost use Rattle.std.specs.Orderings.{Decides};
 ghost use Rattle.text.specs.Fields.{IsNumber, IsName, NameByte, Lacks};
 
+// The largest number that a field can write.
+const LARGEST: u64 = 4294967295;
+
 // The number that a field writes: 0, or digits without a leading zero, at most 4,294,967,295.
 pub(crate) fn number_in(field: &[u8]) -> Option<u32>
     ensures { λ r. ⌜ BySome r ((n : ℕ) → IsNumber n (now (field .entry)) → ⊥) (λ n. IsNumber n (now (field .entry))) ⌝ }
@@ -13,7 +16,8 @@ pub(crate) fn number_in(field: &[u8]) -> Option<u32>
     if field.len() == 0 || field.len() > 10 {
         return None;
     }
-    if field[0] == b'0' && field.len() > 1 {
+    let several = field.len() > 1;
+    if several && field[0] == b'0' {
         return None;
     }
     let mut value: u64 = 0;
@@ -23,7 +27,7 @@ pub(crate) fn number_in(field: &[u8]) -> Option<u32>
         }
         value = value * 10 + (*b - b'0') as u64;
     }
-    if value > 4294967295 {
+    if value > LARGEST {
         return None;
     }
     Some(value as u32)

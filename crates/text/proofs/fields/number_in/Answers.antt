@@ -1,14 +1,12 @@
-use mathlib.Core.Logic.{⊎-elim}
 use native.Mathlib.Omega.{arith}
-use borrow.Author.Needs.{needs}
 use Rattle.text.proofs.Numbers.{small, more, accepted, some, short, no-lead, digit, large}
 use Rattle.text.proofs.fields.number_in.Needs as need
 
 pub returns-then-field-eq0 : need.returns-then-field-eq0
 returns-then-field-eq0 c = λ n is. let a = some (c .args .field .now) n is in let b = short (c .args .field .now) n is in grind arith
 
-pub returns-then-field-gt1 : need.returns-then-field-gt1
-returns-then-field-gt1 c = λ n is. omega (arith, no-lead (c .args .field .now) n is (c .if-field-eq48 .taken))
+pub returns-then-field-eq48 : need.returns-then-field-eq48
+returns-then-field-eq48 c = λ n is. let lead = no-lead (c .args .field .now) n is (c .if-field-eq48 .taken) in omega (arith, c .if-several .taken)
 
 pub returns-then-b-lt48 : need.returns-then-b-lt48
 returns-then-b-lt48 c = λ n is. let a = digit (c .args .field .now) n is (c .loop-b .b-index) (omega arith) in grind arith
@@ -22,8 +20,8 @@ add-value c = omega (arith, small (c .args .field .now) (c .loop-b .b-index) (c 
 pub loop-b-again : need.loop-b-again
 loop-b-again c = more (c .args .field .now) (c .loop-b .b-index) (c .loop-b .value) (omega arith) (c .loop-b .inv) (omega arith) (omega arith)
 
-pub returns-then-value-gt4294967295 : need.returns-then-value-gt4294967295
-returns-then-value-gt4294967295 c = λ n is. large (c .args .field .now) (c .loop-b .b-index) (c .loop-b .value) n (omega arith) (c .loop-b .inv) (omega arith) is
+pub returns-then-value-gt-LARGEST : need.returns-then-value-gt-LARGEST
+returns-then-value-gt-LARGEST c = λ n is. large (c .args .field .now) (c .loop-b .b-index) (c .loop-b .value) n (omega arith) (c .loop-b .inv) (omega arith) is
 
 pub returns : need.returns
 returns c = accepted (c .args .field .now) (c .loop-b .b-index) (c .loop-b .value) (omega arith) (c .loop-b .inv) (omega arith) (λ z. grind arith) (omega arith)
