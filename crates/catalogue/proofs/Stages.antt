@@ -1,6 +1,6 @@
 -- The parts of a catalogue, in their order. Assumes nothing.
 use mathlib.Core.Path.{_≡_, refl, sym, ap, subst, _∙_}
-use mathlib.Core.List.{List, [], _∷_, _++_, append-nil}
+use mathlib.Core.List.{List, [], _∷_, _++_, map, append-nil}
 use Prim.Native.Nat.{ℕ, _+_, _-_, _≤_, _<_}
 use native.Mathlib.Omega.{arith}
 use lib.ListN.{length, take, drop}
@@ -27,7 +27,7 @@ use Rattle.catalogue.specs.Sections.{sectionLines, sectionLayout, lineLayout, 
 use Rattle.catalogue.specs.Content.{kindForm, oneForm, featureForm, bitForm, columnForm, callForm, RecordsOf, RecordsGood, RecordsFit, recordLines, Content, Tables}
 use Rattle.catalogue.specs.Whole.{bitTable, columnTable, recordCount, contents, Recorded, NotRecorded}
 use Rattle.catalogue.proofs.Numbers.{number-lawful, bit-lawful, column-lawful}
-use Rattle.catalogue.proofs.Tables.{line-coded, line-lines-clean, section-coded, section-clean, placed-length}
+use Rattle.catalogue.proofs.Tables.{line-coded, line-lines-clean, section-coded, section-clean, placed-length, rows-same, counts-same, take-placed}
 use Rattle.catalogue.proofs.Words.{kind-lawful, one-lawful, feature-lawful, call-lawful}
 
 -- a line that fills no table
@@ -41,6 +41,7 @@ module _ {E : Type 0} (F : Form E) (law : Lawful F) where
     clean = line-lines-clean F law;
     none = λ x t. refl;
     all = λ k x t le. refl;
+    same = λ c d ls x y t gc gd ec ed. refl;
     example = law .example;
     good = law .example-good;
     fits = tt;
@@ -101,15 +102,30 @@ filled-all k xs table lt = ap (λ l. over l table) (take-all (k - 1) xs (omega a
 pub section-length : {E : Type 0} (F : Form E) (xs : List (F .Value)) → length (sectionLines F xs) ≡ length xs + 1
 section-length F xs = simp length-map (omega arith)
 
+-- the entries of as many values as lines passed are told by these values and the count
+abbrev pub Alike : {E : Type 0} (F : Form E) → (List (F .Value) → List E) → Type 0
+Alike F ents = (k : ℕ) (xs ys : List (F .Value)) → length xs ≡ length ys → take k xs ≡ take k ys → take k (ents xs) ≡ take k (ents ys)
+
 module _ {E : Type 0} (F : Form E) (ents : List (F .Value) → List E) (long : (xs : List (F .Value)) → length (ents xs) ≡ length xs) (slot : Slot E) where
   filled-lines : (k : ℕ) (xs : List (F .Value)) (table : List E) → length (sectionLines F xs) ≤ k → filled k (ents xs) table ≡ over (ents xs) table
   filled-lines k xs table le = filled-all k (ents xs) table (omega (arith, section-length F xs, long xs))
 
-  pub section-sound : Lawful F → (room : ℕ) → Sound (sectionPart F room ents slot)
-  section-sound law room = record {
+  section-same : Lawful F → Alike F ents → (xs ys : List (F .Value)) (ls x y : List (List ℕ)) (table : List E) → All (F .Good) xs × Small (length xs) → All (F .Good) ys × Small (length ys) → sectionLines F xs ≡ ls ++ x → sectionLines F ys ≡ ls ++ y → filled (length ls) (ents xs) table ≡ filled (length ls) (ents ys) table
+  section-same law alike xs ys [] x y table gx gy ex ey = refl
+  section-same law alike xs ys (l ∷ ls) x y table gx gy ex ey =
+      let less : length (l ∷ ls) - 1 ≡ length ls = omega arith in
+      let rows : (zs : List (F .Value)) (z : List (List ℕ)) → sectionLines F zs ≡ l ∷ (ls ++ z) → map (lineOf F) zs ≡ ls ++ z = λ zs z e. cc in
+      ap (λ l. over l table)
+      (ap (λ k. take k (ents xs)) less
+      ∙ alike (length ls) xs ys (counts-same F law xs ys l (ls ++ x) (ls ++ y) (gx .1) (gy .1) ex ey) (rows-same F law xs ys ls x y (gx .0) (gy .0) (rows xs x ex) (rows ys y ey))
+      ∙ ap (λ k. take k (ents ys)) (sym less))
+
+  pub section-sound : Lawful F → Alike F ents → (room : ℕ) → Sound (sectionPart F room ents slot)
+  section-sound law alike room = record {
     coded = section-coded F law room;
     clean = section-clean F law room;
     none = λ xs t. slot .back t;
+    same = λ xs ys ls x y t gx gy ex ey. ap (λ l. slot .put l t) (section-same law alike xs ys ls x y (slot .get t) gx gy ex ey);
     all = λ k xs t le. ap (λ l. slot .put l t) (filled-lines k xs (slot .get t) le ∙ sym (filled-lines (length (sectionLines F xs)) xs (slot .get t) (omega arith)));
     example = [];
     good = (tt, omega arith);
@@ -161,15 +177,23 @@ pricesPart r = sectionPart numberForm (length (r .prices)) (λ xs. xs) priceSlot
 abbrev pub callsPart : Tables → Part Tables
 callsPart r = sectionPart callForm (length (r .calls)) (λ xs. xs) callSlot
 
+features-alike : (kind : Kind) → Alike featureForm (featureEnts kind)
+features-alike kind k xs ys long e =
+    let first = length (ended (lineOf kindForm kind)) in
+    take-placed featureForm feature-lawful k (first + length (ended (lineOf numberForm (length xs)))) xs
+    ∙ ap (λ n. placed featureForm (first + length (ended (lineOf numberForm n))) (take k xs)) long
+    ∙ ap (placed featureForm (first + length (ended (lineOf numberForm (length ys))))) e
+    ∙ sym (take-placed featureForm feature-lawful k (first + length (ended (lineOf numberForm (length ys)))) ys)
+
 features-sound : (r : Tables) (kind : Kind) → Sound (featuresPart r kind)
-features-sound r kind = section-sound featureForm (featureEnts kind) (λ xs. placed-length featureForm feature-lawful _ xs) featureSlot feature-lawful (length (r .features))
+features-sound r kind = section-sound featureForm (featureEnts kind) (λ xs. placed-length featureForm feature-lawful _ xs) featureSlot feature-lawful (features-alike kind) (length (r .features))
 
 records-sound : (r : Tables) (kind : Kind) → Sound (recordsPart r kind)
-records-sound r Bit = section-sound bitForm (λ xs. xs) (λ xs. refl) bitSlot bit-lawful (length (r .bits))
-records-sound r Column = section-sound columnForm (λ xs. xs) (λ xs. refl) columnSlot column-lawful (length (r .columns))
+records-sound r Bit = section-sound bitForm (λ xs. xs) (λ xs. refl) bitSlot bit-lawful (λ k xs ys n e. e) (length (r .bits))
+records-sound r Column = section-sound columnForm (λ xs. xs) (λ xs. refl) columnSlot column-lawful (λ k xs ys n e. e) (length (r .columns))
 
 prices-sound : (r : Tables) → Sound (pricesPart r)
-prices-sound r = section-sound numberForm (λ xs. xs) (λ xs. refl) priceSlot number-lawful (length (r .prices))
+prices-sound r = section-sound numberForm (λ xs. xs) (λ xs. refl) priceSlot number-lawful (λ k xs ys n e. e) (length (r .prices))
 
 -- the parts from one on
 abbrev pub fromCalls : Tables → Part Tables
@@ -194,7 +218,7 @@ abbrev pub fromKind : Tables → Part Tables
 fromKind r = next (linePart kindForm) (fromFeatures r)
 
 calls-sound : (r : Tables) → Sound (fromCalls r)
-calls-sound r = section-sound callForm (λ xs. xs) (λ xs. refl) callSlot call-lawful (length (r .calls))
+calls-sound r = section-sound callForm (λ xs. xs) (λ xs. refl) callSlot call-lawful (λ k xs ys n e. e) (length (r .calls))
 
 fromPrices-sound : (r : Tables) → Sound (fromPrices r)
 fromPrices-sound r = next-sound (pricesPart r) (λ xs. fromCalls r) (prices-sound r) (λ xs. calls-sound r)
@@ -250,11 +274,11 @@ module _ (r : Tables) (fs : List Feature) (a : Reader) (bits : List BitNode) (co
       (section-stops columnForm (λ xs. xs) (λ xs. refl) columnSlot a (tables r fs (r .bits) (r .columns)) columns (own-entries (columnForm .Good) (columnForm .fields) (a .at)) f (h .0))
 
 -- how far the reader has come, and what is refused there
-module _ (r : Tables) (s : Reader) (bs : List ℕ) (fresh : Fresh bs s) where
+module _ (r : Tables) {s : Reader} {bs : List ℕ} (fresh : Fresh bs s) where
   pub kind-stops : (f : Fault) → NotEntered kindForm s f → Stops (fromKind r) (s .line) (rest s) r r f
   kind-stops f none = stops-first (linePart kindForm) (fromFeatures r) (line-sound kindForm kind-lawful) (fromFeatures-sound r) _ _ r r f (line-stops kindForm kind-lawful s r f none)
 
-  module _ (a : Reader) (k : Kind) (kind : Entered kindForm s a k) where
+  module _ {a : Reader} {k : Kind} (kind : Entered kindForm s a k) where
     abbrev K : Kind
     K = kind .value
 
@@ -270,7 +294,7 @@ module _ (r : Tables) (s : Reader) (bs : List ℕ) (fresh : Fresh bs s) where
         (stops-first (featuresPart r K) (λ xs. fromRecords r K) (features-sound r K) (λ xs. fromRecords-sound r K) _ _ _ _ f
         (section-stops featureForm (featureEnts K) (λ xs. placed-length featureForm feature-lawful _ xs) featureSlot a r fs (λ xs. ap (λ p. entries featureForm p xs) begins) f none))
 
-    module _ (b : Reader) (fs : List Feature) (n : ℕ) (features : Section featureForm a b (r .features) fs n) where
+    module _ {b : Reader} {fs : List Feature} {n : ℕ} (features : Section featureForm a b (r .features) fs n) where
       abbrev t2 : Tables
       t2 = featureSlot .put fs r
 
@@ -298,14 +322,14 @@ module _ (r : Tables) (s : Reader) (bs : List ℕ) (fresh : Fresh bs s) where
         pub one-stops : (f : Fault) → NotEntered oneForm c f → Stops (fromKind r) (s .line) (rest s) r t3 f
         one-stops f none = after-records .stops t3 f (stops-first (linePart oneForm) (λ o. fromStart r) (line-sound oneForm one-lawful) (λ o. fromStart-sound r) _ _ t3 t3 f (line-stops oneForm one-lawful c t3 f none))
 
-        module _ (d : Reader) (o : One) (one : Entered oneForm c d o) where
+        module _ {d : Reader} {o : One} (one : Entered oneForm c d o) where
           after-one : Reached (fromKind r) s d r t3 (fromStart r)
           after-one = reached-next (fromKind r) s c d r t3 t3 (linePart oneForm) (λ o. fromStart r) (line-sound oneForm one-lawful) (λ o. fromStart-sound r) (one .value) after-records (line-reads oneForm one-lawful c d t3 o one)
 
           pub start-stops : (f : Fault) → NotEntered numberForm d f → Stops (fromKind r) (s .line) (rest s) r t3 f
           start-stops f none = after-one .stops t3 f (stops-first (linePart numberForm) (λ o. fromPrices r) (line-sound numberForm number-lawful) (λ o. fromPrices-sound r) _ _ t3 t3 f (line-stops numberForm number-lawful d t3 f none))
 
-          module _ (e : Reader) (v : ℕ) (start : Entered numberForm d e v) where
+          module _ {e : Reader} {v : ℕ} (start : Entered numberForm d e v) where
             after-start : Reached (fromKind r) s e r t3 (fromPrices r)
             after-start = reached-next (fromKind r) s d e r t3 t3 (linePart numberForm) (λ o. fromPrices r) (line-sound numberForm number-lawful) (λ o. fromPrices-sound r) (start .value) after-one (line-reads numberForm number-lawful d e t3 v start)
 
@@ -315,7 +339,7 @@ module _ (r : Tables) (s : Reader) (bs : List ℕ) (fresh : Fresh bs s) where
                 (stops-first (pricesPart r) (λ xs. fromCalls r) (prices-sound r) (λ xs. calls-sound r) _ _ _ _ f
                 (section-stops numberForm (λ xs. xs) (λ xs. refl) priceSlot e t3 ps (own-entries (numberForm .Good) (numberForm .fields) (e .at)) f none))
 
-            module _ (g : Reader) (ps : List ℕ) (q : ℕ) (prices : Section numberForm e g (r .prices) ps q) where
+            module _ {g : Reader} {ps : List ℕ} {q : ℕ} (prices : Section numberForm e g (r .prices) ps q) where
               abbrev t6 : Tables
               t6 = priceSlot .put ps t3
 
@@ -327,7 +351,7 @@ module _ (r : Tables) (s : Reader) (bs : List ℕ) (fresh : Fresh bs s) where
               pub calls-stop : (cs : List Call) (f : Fault) → NoSection callForm g (r .calls) cs f → Stops (fromKind r) (s .line) (rest s) r (callSlot .put cs t6) f
               calls-stop cs f none = after-prices .stops _ f (section-stops callForm (λ xs. xs) (λ xs. refl) callSlot g t6 cs (own-entries (callForm .Good) (callForm .fields) (g .at)) f none)
 
-              module _ (h : Reader) (cs : List Call) (w : ℕ) (calls : Section callForm g h (r .calls) cs w) where
+              module _ {h : Reader} {cs : List Call} {w : ℕ} (calls : Section callForm g h (r .calls) cs w) where
                 -- all parts are read
                 unfoldable pub said-whole : fromKind r .layout .Content
                 said-whole = (K, (features .values, (the-records .0, (one .value, (start .value, (prices .values, calls .values))))))

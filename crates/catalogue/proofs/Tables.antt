@@ -81,6 +81,27 @@ module _ {E : Type 0} (F : Form E) (law : Lawful F) where
   placed-length at [] = refl
   placed-length at (x ∷ xs) = simp (placed-length (at + length (ended (lineOf F x))) xs)
 
+  -- the values of lines that passed are told by the lines
+  pub rows-same : (xs ys : List (F .Value)) (ls x y : List (List ℕ)) → All (F .Good) xs → All (F .Good) ys → map (lineOf F) xs ≡ ls ++ x → map (lineOf F) ys ≡ ls ++ y → take (length ls) xs ≡ take (length ls) ys
+  rows-same xs ys [] x y gx gy ex ey = refl
+  rows-same [] ys (l ∷ ls) x y gx gy ex ey = absurd (nothing-is-some l (ls ++ x) ex)
+  rows-same (v ∷ xs) [] (l ∷ ls) x y gx gy ex ey = absurd (nothing-is-some l (ls ++ y) ey)
+  rows-same (v ∷ xs) (w ∷ ys) (l ∷ ls) x y gx gy ex ey =
+      let head : lineOf F v ≡ lineOf F w = cc in
+      let p = line-one F law v w (gx .0) (gy .0) head in
+      let q = rows-same xs ys ls x y (gx .1) (gy .1) (cc) (cc) in
+      λ i. p i ∷ q i
+
+  pub counts-same : (xs ys : List (F .Value)) (l : List ℕ) (x y : List (List ℕ)) → Small (length xs) → Small (length ys) → sectionLines F xs ≡ l ∷ x → sectionLines F ys ≡ l ∷ y → length xs ≡ length ys
+  counts-same xs ys l x y sx sy ex ey =
+      let head : lineOf numberForm (length xs) ≡ lineOf numberForm (length ys) = cc in
+      count-one (length xs) (length ys) sx sy head
+
+  pub take-placed : (k at : ℕ) (xs : List (F .Value)) → take k (placed F at xs) ≡ placed F at (take k xs)
+  take-placed zero at xs = refl
+  take-placed (suc k) at [] = refl
+  take-placed (suc k) at (x ∷ xs) = ap (λ l. F .entry at x ∷ l) (take-placed k (at + length (ended (lineOf F x))) xs)
+
   -- the first i values are read, between a and b, and the table went from `before` to `after`
   pub record Rows (a b : Reader) (before after : List E) (i : ℕ) : Type 0 where
     pub values : List (F .Value)

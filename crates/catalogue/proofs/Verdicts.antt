@@ -14,7 +14,7 @@ use Rattle.fault.specs.Told.{told, fileFault}
 use Rattle.text.specs.declared.reader.Reader.{Reader}
 use Rattle.text.specs.Lines.{ended, textOf, Fresh, rest}
 use Rattle.text.specs.Layouts.{Layout, GoesOn, No, absent, ill-formed, too-small, Refused, Surplus}
-use Rattle.text.proofs.Layouts.{Coded, CleanLines, one-content, one-fault, no-fault, text-append}
+use Rattle.text.proofs.Layouts.{Coded, CleanLines, same-place, not-refused, one-content, one-fault, no-fault, text-append}
 use Rattle.text.proofs.Parts.{Reads, Stops}
 use Rattle.catalogue.specs.declared.entries.Contents.{Contents}
 use Rattle.catalogue.specs.declared.entries.Kind.{Kind}
@@ -70,10 +70,23 @@ module _ (r : Tables) where
   either bs u f (inside x e) = inl x
   either bs u f (behind x e) = inr x
 
+  -- the tables are told by the text
+  same-tables : (bs : List ℕ) (u v : Tables) (f g : Fault) → Stopped bs r u f → Stopped bs r v g → v ≡ u
+  same-tables bs u v f g (inside x e) (inside y d) =
+      let at = same-place (catalogueLayout r) catalogue-coded catalogue-clean 0 bs g f y x .0 in
+      d
+      ∙ ap (λ l. held (length l) (y .content) r) at
+      ∙ fromKind-sound r .same (pack r (y .content)) (pack r (x .content)) (x .passed) (y .wanted ∷ y .begins .more) (x .wanted ∷ x .begins .more) r (pack-good (y .content) (y .begins .good)) (pack-good (x .content) (x .begins .good)) (y .begins .lines ∙ ap (λ l. l ++ y .wanted ∷ y .begins .more) at) (x .begins .lines)
+      ∙ sym e
+  same-tables bs u v f g (inside x e) (behind y d) = absurd (not-refused (catalogueLayout r) catalogue-coded catalogue-clean 0 bs f (y .content) (y .left) (y .good) (y .fits) (y .split) x)
+  same-tables bs u v f g (behind x e) (inside y d) = absurd (not-refused (catalogueLayout r) catalogue-coded catalogue-clean 0 bs g (x .content) (x .left) (x .good) (x .fits) (x .split) y)
+  same-tables bs u v f g (behind x e) (behind y d) =
+      d ∙ ap (λ c. full c r) (one-content (catalogueLayout r) catalogue-coded catalogue-clean (y .content) (x .content) (y .left) (x .left) (y .good) (x .good) (sym (y .split) ∙ x .split) .0) ∙ sym e
+
   denied-by : (bs : List ℕ) (u : Tables) (f : Fault) → Stopped bs r u f → Denied bs r u f
   denied-by bs u f stopped = record {
     stopped = stopped;
-    only = λ v g other. one-fault (catalogueLayout r) catalogue-coded catalogue-clean bs g f (either bs v g other) (either bs u f stopped);
+    only = λ v g other. (one-fault (catalogueLayout r) catalogue-coded catalogue-clean bs g f (either bs v g other) (either bs u f stopped), same-tables bs u v f g stopped other);
     never = λ c good fits is. no-fault (catalogueLayout r) catalogue-coded catalogue-clean bs f c good fits is (either bs u f stopped);
   }
 

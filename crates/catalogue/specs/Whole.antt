@@ -120,8 +120,9 @@ pub data Stopped (bs : List ℕ) (t u : Tables) (f : Fault) : Type 0 where
   inside : (r : Refused (catalogueLayout t) 0 bs f) → u ≡ held (length (r .passed)) (r .content) t → Stopped bs t u f
   behind : (r : Surplus (catalogueLayout t) bs f) → u ≡ full (r .content) t → Stopped bs t u f
 
--- bs is refused with f, the only fault that it has, and is the text of no catalogue that fits
+-- bs is refused with f, the only fault that it has, and u are the only tables that it can then leave; it is the text of
+-- no catalogue that fits
 pub record Denied (bs : List ℕ) (t u : Tables) (f : Fault) : Type 0 where
   pub stopped : Stopped bs t u f
-  pub only : (v : Tables) (g : Fault) → Stopped bs t v g → told g ≡ told f
+  pub only : (v : Tables) (g : Fault) → Stopped bs t v g → (told g ≡ told f) × (v ≡ u)
   pub never : (c : Content) → Good c → Fits t c → bs ≡ textOf (lines c) → ⊥

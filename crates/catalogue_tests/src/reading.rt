@@ -34,7 +34,7 @@ pub const EXAMPLE: &[u8] =
     b"B\n3\nsize 3\nfinish 2\ncard 2\n3\n0 3 1\n1 1 4\n2 1 0\n1\n2\n7\n900\n1100\n1500\n0\n300\n0\n600\n3\nceiling 1500\nchoose 0 2\nchoose 2 1\n";
 
 // Reads into tables with room for so many features, records, prices and calls, at most eight each.
-pub fn read_in(
+pub(crate) fn read_in(
     text: &[u8],
     features: usize,
     records: usize,
@@ -61,7 +61,11 @@ pub fn read_in(
 }
 
 // Holds an answer to a refusal with this number and line, and with place 0.
-pub fn refused(answer: Result<Contents, Fault>, number: u32, line: usize) -> Result<(), Fail> {
+pub(crate) fn refused(
+    answer: Result<Contents, Fault>,
+    number: u32,
+    line: usize,
+) -> Result<(), Fail> {
     match answer {
         Ok(_) => Err(Fail::new("accepted")),
         Err(fault) => {

@@ -33,6 +33,15 @@ meet (x ∷ a) b (y ∷ c) d l e =
     (λ (p : (m : List _) × (a ≡ c ++ l ∷ m)). inr (p .0, λ i. sym head i ∷ p .1 i))
     (meet a b c d l tail)
 
+-- the same, whatever follows
+pub reach : {X : Type 0} (a b c d : List X) → a ++ b ≡ c ++ d → ((m : List X) × (c ≡ a ++ m)) ⊎ ((l : X) × (m : List X) × (a ≡ c ++ l ∷ m))
+reach a b c [] e = inl (b, sym (append-nil c) ∙ sym e)
+reach a b c (l ∷ d) e =
+    ⊎-elim
+    (λ (p : (m : List _) × (c ≡ a ++ m)). inl p)
+    (λ (p : (m : List _) × (a ≡ c ++ l ∷ m)). inr (l, p .0, p .1))
+    (meet a b c d l e)
+
 pub text-append : (ls ms : List (List ℕ)) → textOf (ls ++ ms) ≡ textOf ls ++ textOf ms
 text-append [] ms = refl
 text-append (l ∷ ls) ms = ap (λ t. ended l ++ t) (text-append ls ms) ∙ sym (append-assoc (ended l) (textOf ls) (textOf ms))
@@ -117,20 +126,25 @@ module _ (L : Layout) (coded : Coded L) (clean : CleanLines L) where
       (record { good = good; more = on .more ++ more; lines = is ∙ ap (λ l. l ++ more) (on .lines) ∙ append-assoc (r .passed) (on .line ∷ on .more) more })
       (on .lacks) (on .left) (r .no)
 
-  one-refusal : (k : ℕ) (bs : List ℕ) (f g : Fault) → Refused L k bs f → Refused L k bs g → told f ≡ told g
-  one-refusal k bs f g a b =
+  -- two refusals of a text are at the same line
+  pub same-place : (k : ℕ) (bs : List ℕ) (f g : Fault) (a : Refused L k bs f) (b : Refused L k bs g) → (a .passed ≡ b .passed) × (a .left ≡ b .left)
+  same-place k bs f g a b =
       ⊎-elim
-      (λ (p : (a .passed ≡ b .passed) × (a .left ≡ b .left)).
-      let moved : No L (b .passed) (b .left) (a .number) = subst (λ l. No L (b .passed) l (a .number)) (p .1) (subst (λ l. No L l (a .left) (a .number)) (p .0) (a .no)) in
-      a .is ∙ ap (λ l. fileFault (a .number) (k + (length l + 1))) (p .0) ∙ ap (λ n. fileFault n (k + (length (b .passed) + 1))) (one-no L (b .passed) (b .left) (a .number) (b .number) moved (b .no)) ∙ sym (b .is))
-      (λ (o : Further (a .passed) (b .passed) (a .left) ⊎ Further (b .passed) (a .passed) (b .left)). ⊎-elim
-      (λ (p : Further (a .passed) (b .passed) (a .left)). absurd (no-further k bs f a (b .content) (b .passed) _ (b .begins .good) (b .fits) (b .begins .lines) p))
-      (λ (p : Further (b .passed) (a .passed) (b .left)). absurd (no-further k bs g b (a .content) (a .passed) _ (a .begins .good) (a .fits) (a .begins .lines) p))
-      o)
+      (λ (p : (a .passed ≡ b .passed) × (a .left ≡ b .left)). p)
+      (λ (o : Further (a .passed) (b .passed) (a .left) ⊎ Further (b .passed) (a .passed) (b .left)). absurd (⊎-elim
+      (λ (p : Further (a .passed) (b .passed) (a .left)). no-further k bs f a (b .content) (b .passed) _ (b .begins .good) (b .fits) (b .begins .lines) p)
+      (λ (p : Further (b .passed) (a .passed) (b .left)). no-further k bs g b (a .content) (a .passed) _ (a .begins .good) (a .fits) (a .begins .lines) p)
+      o))
       (order (a .passed) (b .passed) (a .left) (b .left) (passed-clean k bs f a) (passed-clean k bs g b) (sym (a .split) ∙ b .split))
 
+  one-refusal : (k : ℕ) (bs : List ℕ) (f g : Fault) → Refused L k bs f → Refused L k bs g → told f ≡ told g
+  one-refusal k bs f g a b =
+      let p = same-place k bs f g a b in
+      let moved : No L (b .passed) (b .left) (a .number) = subst (λ l. No L (b .passed) l (a .number)) (p .1) (subst (λ l. No L l (a .left) (a .number)) (p .0) (a .no)) in
+      a .is ∙ ap (λ l. fileFault (a .number) (k + (length l + 1))) (p .0) ∙ ap (λ n. fileFault n (k + (length (b .passed) + 1))) (one-no L (b .passed) (b .left) (a .number) (b .number) moved (b .no)) ∙ sym (b .is)
+
   -- a text that begins with all lines of a content that fits is not refused among them
-  not-refused : (k : ℕ) (bs : List ℕ) (f : Fault) (d : L .Content) (rest : List ℕ) → L .Good d → L .Fits d → bs ≡ textOf (L .lines d) ++ rest → Refused L k bs f → ⊥
+  pub not-refused : (k : ℕ) (bs : List ℕ) (f : Fault) (d : L .Content) (rest : List ℕ) → L .Good d → L .Fits d → bs ≡ textOf (L .lines d) ++ rest → Refused L k bs f → ⊥
   not-refused k bs f d rest good fits is r =
       let inside : (m : List (List ℕ)) → L .lines (r .content) ≡ L .lines d ++ m → [] ≡ m = λ m e. coded (r .content) d [] m (r .begins .good) good (append-nil (L .lines (r .content)) ∙ e) .1 in
       ⊎-elim

@@ -1,6 +1,7 @@
 -- The parts of a text, each with what it does to the tables of type T. Assumes nothing.
 use mathlib.Core.Path.{_≡_, refl, sym, ap, subst, _∙_}
 use mathlib.Core.List.{List, [], _∷_, _++_, append-assoc, append-nil}
+use mathlib.Core.Logic.{_⊎_, ⊎-elim}
 use Prim.Native.Nat.{ℕ, _+_, _-_, _≤_, _<_}
 use native.Mathlib.Omega.{arith}
 use lib.ListN.{length, length-append}
@@ -8,7 +9,7 @@ use Rattle.fault.specs.declared.Fault.{Fault}
 use Rattle.text.specs.declared.reader.Reader.{Reader}
 use Rattle.text.specs.Lines.{textOf, rest, Took}
 use Rattle.text.specs.Layouts.{Layout, Refused}
-use Rattle.text.proofs.Layouts.{Coded, CleanLines, then, then-coded, then-clean, refused-then, refused-first}
+use Rattle.text.proofs.Layouts.{Coded, CleanLines, reach, then, then-coded, then-clean, refused-then, refused-first}
 use Rattle.text.proofs.Takes.{took-more}
 
 -- a layout, and the tables once so many lines of a content have passed
@@ -16,12 +17,14 @@ pub record Part (T : Type 0) : Type 1 where
   pub layout : Layout
   pub held : ℕ → layout .Content → T → T
 
--- contents are told apart; no line changes nothing, and lines past the last change no more; there is a content that fits
+-- contents are told apart; no line changes nothing, lines past the last change no more, and what lines do is told by
+-- them; there is a content that fits
 pub record Sound {T : Type 0} (P : Part T) : Type 0 where
   pub coded : Coded (P .layout)
   pub clean : CleanLines (P .layout)
   pub none : (c : P .layout .Content) (t : T) → P .held 0 c t ≡ t
   pub all : (k : ℕ) (c : P .layout .Content) (t : T) → length (P .layout .lines c) ≤ k → P .held k c t ≡ P .held (length (P .layout .lines c)) c t
+  pub same : (c d : P .layout .Content) (p x y : List (List ℕ)) (t : T) → P .layout .Good c → P .layout .Good d → P .layout .lines c ≡ p ++ x → P .layout .lines d ≡ p ++ y → P .held (length p) c t ≡ P .held (length p) d t
   pub example : P .layout .Content
   pub good : P .layout .Good example
   pub fits : P .layout .Fits example
@@ -61,6 +64,39 @@ module _ {T : Type 0} (P : Part T) (Q : P .layout .Content → Part T) (p : Soun
       ∙ q x .all (k - m) (c .1) (P .held m x t) (omega arith)
       ∙ after (length (next P Q .layout .lines c)) n x (c .1) t (P .held m x t) long refl
 
+  -- what lines do that end inside the first part, or after it
+  in-first : (c : next P Q .layout .Content) (ls m : List (List ℕ)) (l : List ℕ) (t : T) → P .layout .lines (c .0) ≡ ls ++ l ∷ m → next P Q .held (length ls) c t ≡ P .held (length ls) (c .0) t
+  in-first c ls m l t is =
+      let less : length ls - length (P .layout .lines (c .0)) ≡ 0 = omega (arith, ap length is, length-append ls (l ∷ m)) in
+      ap (λ i. Q (c .0) .held i (c .1) (P .held (length ls) (c .0) t)) less ∙ q (c .0) .none (c .1) (P .held (length ls) (c .0) t)
+
+  same-second : (c d : next P Q .layout .Content) (ls m x y : List (List ℕ)) (t : T) → next P Q .layout .Good c → next P Q .layout .Good d → next P Q .layout .lines c ≡ ls ++ x → next P Q .layout .lines d ≡ ls ++ y → ls ≡ P .layout .lines (c .0) ++ m → next P Q .held (length ls) c t ≡ next P Q .held (length ls) d t
+  same-second c d ls m x y t gc gd ec ed is =
+      let front = P .layout .lines (c .0) in
+      let whole : (z : List (List ℕ)) → ls ++ z ≡ front ++ (m ++ z) = λ z. ap (λ k. k ++ z) is ∙ append-assoc front m z in
+      let mine = p .coded (c .0) (c .0) (Q (c .0) .layout .lines (c .1)) (m ++ x) (gc .0) (gc .0) (ec ∙ whole x) .1 in
+      let other = p .coded (c .0) (d .0) (m ++ y) (Q (d .0) .layout .lines (d .1)) (gc .0) (gd .0) (sym (ed ∙ whole y)) in
+      let long : length ls ≡ length front + length m = ap length is ∙ length-append front m in
+      let u = P .held (length front) (c .0) t in
+      let R : P .layout .Content → Type 0 = λ z. (w : Q z .layout .Content) → Q z .layout .Good w → m ++ y ≡ Q z .layout .lines w → next P Q .held (length ls) c t ≡ next P Q .held (length ls) (z, w) t in
+      subst R (other .0)
+      (λ w gw ew.
+      sym (after (length ls) (length m) (c .0) (c .1) t u long refl)
+      ∙ q (c .0) .same (c .1) w m x y u (gc .1) gw mine (sym ew)
+      ∙ after (length ls) (length m) (c .0) w t u long refl)
+      (d .1) (gd .1) (other .1)
+
+  next-same : (c d : next P Q .layout .Content) (ls x y : List (List ℕ)) (t : T) → next P Q .layout .Good c → next P Q .layout .Good d → next P Q .layout .lines c ≡ ls ++ x → next P Q .layout .lines d ≡ ls ++ y → next P Q .held (length ls) c t ≡ next P Q .held (length ls) d t
+  next-same c d ls x y t gc gd ec ed =
+      ⊎-elim
+      (λ (h : (m : List (List ℕ)) × (ls ≡ P .layout .lines (c .0) ++ m)). same-second c d ls (h .0) x y t gc gd ec ed (h .1))
+      (λ (h : (l : List ℕ) × (m : List (List ℕ)) × (P .layout .lines (c .0) ≡ ls ++ l ∷ m)). ⊎-elim
+      (λ (k : (m : List (List ℕ)) × (ls ≡ P .layout .lines (d .0) ++ m)). sym (same-second d c ls (k .0) y x t gd gc ed ec (k .1)))
+      (λ (k : (l : List ℕ) × (m : List (List ℕ)) × (P .layout .lines (d .0) ≡ ls ++ l ∷ m)).
+      in-first c ls (h .1) (h .0) t (h .2) ∙ p .same (c .0) (d .0) ls (h .0 ∷ h .1) (k .0 ∷ k .1) t (gc .0) (gd .0) (h .2) (k .2) ∙ sym (in-first d ls (k .1) (k .0) t (k .2)))
+      (reach (P .layout .lines (d .0)) (Q (d .0) .layout .lines (d .1)) ls y ed))
+      (reach (P .layout .lines (c .0)) (Q (c .0) .layout .lines (c .1)) ls x ec)
+
   pub next-sound : Sound (next P Q)
   next-sound = record {
     coded = then-coded (P .layout) (λ x. Q x .layout) (p .coded) (λ x. q x .coded);
@@ -69,6 +105,7 @@ module _ {T : Type 0} (P : Part T) (Q : P .layout .Content → Part T) (p : Soun
         let less : 0 - length (P .layout .lines (c .0)) ≡ 0 = omega arith in
         ap (λ k. Q (c .0) .held k (c .1) (P .held 0 (c .0) t)) less ∙ q (c .0) .none (c .1) (P .held 0 (c .0) t) ∙ p .none (c .0) t;
     all = next-all;
+    same = next-same;
     example = (p .example, q (p .example) .example);
     good = (p .good, q (p .example) .good);
     fits = (p .fits, q (p .example) .fits);
