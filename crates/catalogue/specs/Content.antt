@@ -92,6 +92,9 @@ pub record Tables : Type 0 where
   pub prices : List ℕ
   pub calls : List Call
 
+abbrev pub lent : List Feature → List BitNode → List ColumnNode → List ℕ → List Call → Tables
+lent fs bs cs ps ks = record { features = fs; bits = bs; columns = cs; prices = ps; calls = ks }
+
 abbrev pub recordLines : (k : Kind) → RecordsOf k → List (List ℕ)
 recordLines Bit rs = sectionLines bitForm rs
 recordLines Column rs = sectionLines columnForm rs

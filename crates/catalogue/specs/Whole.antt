@@ -3,6 +3,8 @@ use mathlib.Core.Path.{_≡_}
 use mathlib.Core.List.{List, [], _∷_}
 use Prim.Native.Nat.{ℕ, _+_, _-_, _≤_}
 use lib.ListN.{length, take, drop}
+use Rattle.std.specs.Results.{Cases}
+use Rattle.std.specs.declared.result.Result.{Result}
 use Rattle.diagram.specs.declared.BitNode.{BitNode}
 use Rattle.diagram.specs.declared.ColumnNode.{ColumnNode}
 use Rattle.fault.specs.declared.Fault.{Fault}
@@ -126,3 +128,7 @@ pub record Denied (bs : List ℕ) (t u : Tables) (f : Fault) : Type 0 where
   pub stopped : Stopped bs t u f
   pub only : (v : Tables) (g : Fault) → Stopped bs t v g → (told g ≡ told f) × (v ≡ u)
   pub never : (c : Content) → Good c → Fits t c → bs ≡ textOf (lines c) → ⊥
+
+-- the reader's answer to bs, with tables that went from t to u
+abbrev pub Judged : List ℕ → Tables → Tables → Result Contents Fault → Type 0
+Judged bs t u r = Cases r (λ c. Accepted bs t u c) (λ f. Denied bs t u f)

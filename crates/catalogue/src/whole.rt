@@ -1,7 +1,7 @@
 // A whole catalogue.
 ghost use Rattle.std.specs.Results.{Cases};
-ghost use Rattle.catalogue.specs.Content.{Tables};
-ghost use Rattle.catalogue.specs.Whole.{Recorded, NotRecorded, Accepted, Denied};
+ghost use Rattle.catalogue.specs.Content.{lent};
+ghost use Rattle.catalogue.specs.Whole.{Recorded, NotRecorded, Judged};
 use crate::entries::Call;
 use crate::entries::Contents;
 use crate::entries::Feature;
@@ -48,13 +48,9 @@ pub fn read(
     prices: &mut [u32],
     calls: &mut [Call],
 ) -> Result<Contents, Fault>
-    ensures { λ r. ⌜ Cases r
-        (λ c. Accepted (now (text .entry))
-        (record { features = now (features .entry); bits = now (bits .entry); columns = now (columns .entry); prices = now (prices .entry); calls = now (calls .entry) })
-        (record { features = now (features .exit); bits = now (bits .exit); columns = now (columns .exit); prices = now (prices .exit); calls = now (calls .exit) }) c)
-        (λ f. Denied (now (text .entry))
-        (record { features = now (features .entry); bits = now (bits .entry); columns = now (columns .entry); prices = now (prices .entry); calls = now (calls .entry) })
-        (record { features = now (features .exit); bits = now (bits .exit); columns = now (columns .exit); prices = now (prices .exit); calls = now (calls .exit) }) f) ⌝ }
+    ensures { λ r. ⌜ Judged (now (text .entry))
+        (lent (now (features .entry)) (now (bits .entry)) (now (columns .entry)) (now (prices .entry)) (now (calls .entry)))
+        (lent (now (features .exit)) (now (bits .exit)) (now (columns .exit)) (now (prices .exit)) (now (calls .exit))) r ⌝ }
 {
     let mut reader = Reader::new(text);
     let kind = entry::<Kind>(&mut reader)?;

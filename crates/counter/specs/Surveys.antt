@@ -4,9 +4,11 @@ use mathlib.Core.List.{List}
 use mathlib.Core.Logic.{_⊎_}
 use Prim.Native.Nat.{ℕ, _≤_, _<_}
 use lib.ListN.{length}
+use Rattle.std.specs.Results.{Cases}
+use Rattle.std.specs.declared.result.Result.{Result}
 use Rattle.catalogue.specs.declared.entries.Contents.{Contents}
 use Rattle.catalogue.specs.Content.{Tables}
-use Rattle.catalogue.specs.Whole.{Accepted, Denied}
+use Rattle.catalogue.specs.Whole.{Judged}
 use Rattle.fault.specs.declared.Fault.{Fault}
 use Rattle.fault.specs.Told.{told, fileFault}
 
@@ -17,22 +19,18 @@ pub record Sized (t : Tables) : Type 0 where
   pub prices : length (t .prices) ≡ 384
   pub calls : length (t .calls) ≡ 64
 
--- bs is short enough, and the reader accepts it as c with tables of these sizes
-pub record Surveyed (bs : List ℕ) (c : Contents) : Type 0 where
+-- the reader's answer, where bs has at most 16,384 bytes, with tables of these sizes
+pub record Read (bs : List ℕ) (r : Result Contents Fault) : Type 0 where
   pub short : length bs ≤ 16384
   pub before : Tables
   pub after : Tables
   pub sized : Sized before
-  pub accepted : Accepted bs before after c
+  pub judged : Judged bs before after r
 
--- bs is short enough, and the reader denies it
-pub record DeniedHere (bs : List ℕ) (f : Fault) : Type 0 where
-  pub short : length bs ≤ 16384
-  pub before : Tables
-  pub after : Tables
-  pub sized : Sized before
-  pub denied : Denied bs before after f
+-- a longer text is refused by 17 at line 0
+pub record TooLong (bs : List ℕ) (r : Result Contents Fault) : Type 0 where
+  pub long : 16384 < length bs
+  pub refused : Cases r (λ c. ⊥) (λ f. told f ≡ fileFault 17 0)
 
--- or it has more than 16,384 bytes, which is 17 at line 0
-abbrev pub Refused : List ℕ → Fault → Type 0
-Refused bs f = DeniedHere bs f ⊎ ((16384 < length bs) × (told f ≡ fileFault 17 0))
+abbrev pub Surveyed : List ℕ → Result Contents Fault → Type 0
+Surveyed bs r = Read bs r ⊎ TooLong bs r

@@ -1,6 +1,5 @@
 // Reads a text with the program's own tables.
-ghost use Rattle.std.specs.Results.{Cases};
-ghost use Rattle.counter.specs.Surveys.{Surveyed, Refused};
+ghost use Rattle.counter.specs.Surveys.{Surveyed};
 use catalogue::entries::Call;
 use catalogue::entries::Contents;
 use catalogue::entries::Feature;
@@ -15,7 +14,7 @@ const LIMIT: usize = 16384;
 // What a catalogue of at most 16,384 bytes says, or why it is refused. There are tables for 24 features, 64 records of
 // either form, 384 prices and 64 calls. One step a byte of the text; nothing is allocated.
 pub fn survey(text: &[u8]) -> Result<Contents, Fault>
-    ensures { λ r. ⌜ Cases r (λ c. Surveyed (now (text .entry)) c) (λ f. Refused (now (text .entry)) f) ⌝ }
+    ensures { λ r. ⌜ Surveyed (now (text .entry)) r ⌝ }
 {
     if text.len() > LIMIT {
         return Err(Fault::TableTooSmall { line: 0 });
