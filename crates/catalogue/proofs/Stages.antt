@@ -23,7 +23,7 @@ use Rattle.catalogue.specs.declared.entries.Kind.{Kind}
 use Rattle.catalogue.specs.declared.entries.Kind.the-variants.{Bit, Column}
 use Rattle.catalogue.specs.declared.entries.One.{One}
 use Rattle.catalogue.specs.Forms.{Form, lineOf, Lawful, numberForm}
-use Rattle.catalogue.specs.Sections.{sectionLines, sectionLayout, lineLayout, placed, entries, over, filled, Entered, Broken, absent, ill-formed, NotEntered, Section, NoSection}
+use Rattle.catalogue.specs.Sections.{sectionLines, sectionLayout, lineLayout, placed, entries, over, filled, Entered, Section, NoSection}
 use Rattle.catalogue.specs.Content.{kindForm, oneForm, featureForm, bitForm, columnForm, callForm, RecordsOf, RecordsGood, RecordsFit, recordLines, Content, Tables}
 use Rattle.catalogue.specs.Whole.{bitTable, columnTable, recordCount, contents, Recorded, NotRecorded}
 use Rattle.catalogue.proofs.Numbers.{number-lawful, bit-lawful, column-lawful}
@@ -50,26 +50,8 @@ module _ {E : Type 0} (F : Form E) (law : Lawful F) where
   pub line-reads : (a b : Reader) (t : Tables) (e : E) (entered : Entered F a b e) → Reads (linePart F) a b t t (entered .value)
   line-reads a b t e entered = record { good = entered .good; fits = tt; took = entered .took; table = refl }
 
-  no-line : (bs : List ℕ) (n : ℕ) → Broken F bs n → No (lineLayout F) [] bs n
-  no-line bs n (absent lacks) = layouts.absent lacks
-  no-line bs n (ill-formed l more hl e never) = layouts.ill-formed l more hl e (λ x on. let head : l ≡ lineOf F x = cc in never x (on .good) head)
-
-  pub line-stops : (a : Reader) (t : Tables) (f : Fault) → NotEntered F a f → Stops (linePart F) (a .line) (rest a) t t f
-  line-stops a t f none = record {
-    refused = record {
-      content = law .example;
-      fits = tt;
-      passed = [];
-      wanted = lineOf F (law .example);
-      begins = record { good = law .example-good; more = []; lines = refl };
-      left = rest a;
-      split = refl;
-      number = none .number;
-      no = no-line (rest a) (none .number) (none .broken);
-      is = none .is;
-    };
-    table = refl;
-  }
+  pub line-stops : (a : Reader) (t : Tables) (f : Fault) → Refused (lineLayout F) (a .line) (rest a) f → Stops (linePart F) (a .line) (rest a) t t f
+  line-stops a t f refused = record { refused = refused; table = refl }
 
 -- one of the tables: how it is read and replaced
 pub record Slot (E : Type 0) : Type 0 where
@@ -275,7 +257,7 @@ module _ (r : Tables) (fs : List Feature) (a : Reader) (bits : List BitNode) (co
 
 -- how far the reader has come, and what is refused there
 module _ (r : Tables) {s : Reader} {bs : List ℕ} (fresh : Fresh bs s) where
-  pub kind-stops : (f : Fault) → NotEntered kindForm s f → Stops (fromKind r) (s .line) (rest s) r r f
+  pub kind-stops : (f : Fault) → Refused (lineLayout kindForm) (s .line) (rest s) f → Stops (fromKind r) (s .line) (rest s) r r f
   kind-stops f none = stops-first (linePart kindForm) (fromFeatures r) (line-sound kindForm kind-lawful) (fromFeatures-sound r) _ _ r r f (line-stops kindForm kind-lawful s r f none)
 
   module _ {a : Reader} {k : Kind} (kind : Entered kindForm s a k) where
@@ -319,14 +301,14 @@ module _ (r : Tables) {s : Reader} {bs : List ℕ} (fresh : Fresh bs s) where
         after-records : Reached (fromKind r) s c r t3 (fromOne r)
         after-records = reached-next (fromKind r) s b c r t2 t3 (recordsPart r K) (λ rs. fromOne r) (records-sound r K) (λ rs. fromOne-sound r) (the-records .0) after-features (the-records .2)
 
-        pub one-stops : (f : Fault) → NotEntered oneForm c f → Stops (fromKind r) (s .line) (rest s) r t3 f
+        pub one-stops : (f : Fault) → Refused (lineLayout oneForm) (c .line) (rest c) f → Stops (fromKind r) (s .line) (rest s) r t3 f
         one-stops f none = after-records .stops t3 f (stops-first (linePart oneForm) (λ o. fromStart r) (line-sound oneForm one-lawful) (λ o. fromStart-sound r) _ _ t3 t3 f (line-stops oneForm one-lawful c t3 f none))
 
         module _ {d : Reader} {o : One} (one : Entered oneForm c d o) where
           after-one : Reached (fromKind r) s d r t3 (fromStart r)
           after-one = reached-next (fromKind r) s c d r t3 t3 (linePart oneForm) (λ o. fromStart r) (line-sound oneForm one-lawful) (λ o. fromStart-sound r) (one .value) after-records (line-reads oneForm one-lawful c d t3 o one)
 
-          pub start-stops : (f : Fault) → NotEntered numberForm d f → Stops (fromKind r) (s .line) (rest s) r t3 f
+          pub start-stops : (f : Fault) → Refused (lineLayout numberForm) (d .line) (rest d) f → Stops (fromKind r) (s .line) (rest s) r t3 f
           start-stops f none = after-one .stops t3 f (stops-first (linePart numberForm) (λ o. fromPrices r) (line-sound numberForm number-lawful) (λ o. fromPrices-sound r) _ _ t3 t3 f (line-stops numberForm number-lawful d t3 f none))
 
           module _ {e : Reader} {v : ℕ} (start : Entered numberForm d e v) where

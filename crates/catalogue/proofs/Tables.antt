@@ -19,9 +19,9 @@ use Rattle.text.specs.Layouts.{Layout, GoesOn, No, Refused}
 use Rattle.text.proofs.Layouts.{Coded, Clean, CleanLines, nothing-is-some, text-append}
 use Rattle.text.proofs.Takes.{took-none, took-more}
 use Rattle.catalogue.specs.Forms.{Form, lineOf, Lawful, numberForm}
-use Rattle.catalogue.specs.Sections.{sectionLines, sectionLayout, lineLayout, placed, entries, over, filled, Entered, Broken, absent, ill-formed, NotEntered, Counted, Crowded, Section, NoSection}
+use Rattle.catalogue.specs.Sections.{sectionLines, sectionLayout, lineLayout, placed, entries, over, filled, Entered, Counted, Crowded, Section, NoSection}
 use Rattle.catalogue.proofs.Numbers.{number-lawful}
-use Rattle.catalogue.proofs.Lines.{line-clean, line-one}
+use Rattle.catalogue.proofs.Lines.{Broken, absent, ill-formed, NotEntered, not-entered-by, line-clean, line-one}
 
 -- a count tells its number
 count-one : (m n : ℕ) → Small m → Small n → lineOf numberForm m ≡ lineOf numberForm n → m ≡ n
@@ -184,8 +184,10 @@ module _ {E : Type 0} (F : Form E) (law : Lawful F) where
     table = refl;
   }
 
-  pub counts-not : (a : Reader) (t : List E) (f : Fault) → NotEntered numberForm a f ⊎ Crowded (length t) a f → NoSection F a t t f
-  counts-not a t f (inl none) = at-count a t f (none .number) (no-count a (length t) (none .number) (none .broken)) (none .is)
+  pub counts-not : (a : Reader) (t : List E) (f : Fault) → Refused (lineLayout numberForm) (a .line) (rest a) f ⊎ Crowded (length t) a f → NoSection F a t t f
+  counts-not a t f (inl refused) =
+      let none = not-entered-by numberForm number-lawful (a .line) (rest a) f refused in
+      at-count a t f (none .number) (no-count a (length t) (none .number) (none .broken)) (none .is)
   counts-not a t f (inr crowd) = at-count a t f 17 (crowded a (length t) f crowd) (crowd .is)
 
   -- a line among the rows of ys is one of them
@@ -205,7 +207,10 @@ module _ {E : Type 0} (F : Form E) (law : Lawful F) where
       let q = row-of vs xs l (on .more) (on .good .0) tail in
       never (q .0) (q .1) (q .2))
 
-  module _ (a b c : Reader) (t u : List E) (n i : ℕ) (f : Fault) (counted : Counted (length t) a b n) (rows : Rows b c t u i) (lt : i < n) (none : NotEntered F c f) where
+  module _ (a b c : Reader) (t u : List E) (n i : ℕ) (f : Fault) (counted : Counted (length t) a b n) (rows : Rows b c t u i) (lt : i < n) (refused : Refused (lineLayout F) (c .line) (rest c) f) where
+    none : NotEntered F (c .line) (rest c) f
+    none = not-entered-by F law (c .line) (rest c) f refused
+
     -- the values that are read, and as many examples as the count wants more
     abbrev pad : List (F .Value)
     pad = replicate (n - (i + 1)) (law .example)

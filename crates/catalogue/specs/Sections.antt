@@ -8,7 +8,7 @@ use Rattle.std.specs.shelf.Lists.{All}
 use Rattle.fault.specs.declared.Fault.{Fault}
 use Rattle.fault.specs.Told.{told, fileFault}
 use Rattle.text.specs.declared.reader.Reader.{Reader}
-use Rattle.text.specs.Fields.{Lacks, Small}
+use Rattle.text.specs.Fields.{Small}
 use Rattle.text.specs.Lines.{ended, rest, Took}
 use Rattle.text.specs.Layouts.{Layout, Refused}
 use Rattle.catalogue.specs.Forms.{Form, lineOf, numberForm}
@@ -17,7 +17,10 @@ use Rattle.catalogue.specs.Forms.{Form, lineOf, numberForm}
 abbrev pub sectionLines : {E : Type 0} (F : Form E) → List (F .Value) → List (List ℕ)
 sectionLines F xs = lineOf numberForm (length xs) ∷ map (lineOf F) xs
 
--- the layout of a section whose table has room for so many entries, and that of one line alone
+-- the layouts of one line alone, and of a section whose table has room for so many entries
+abbrev pub lineLayout : {E : Type 0} → Form E → Layout
+lineLayout F = record { Content = F .Value; Good = F .Good; Fits = λ x. Unit {0}; lines = λ x. lineOf F x ∷ [] }
+
 abbrev pub sectionLayout : {E : Type 0} → Form E → ℕ → Layout
 sectionLayout F room = record {
   Content = List (F .Value);
@@ -25,9 +28,6 @@ sectionLayout F room = record {
   Fits = λ xs. length xs ≤ room;
   lines = sectionLines F;
 }
-
-abbrev pub lineLayout : {E : Type 0} → Form E → Layout
-lineLayout F = record { Content = F .Value; Good = F .Good; Fits = λ x. Unit {0}; lines = λ x. lineOf F x ∷ [] }
 
 -- the entries of the values xs, the first of whose lines begins at `at`
 abbrev pub placed : {E : Type 0} (F : Form E) → ℕ → List (F .Value) → List E
@@ -52,16 +52,6 @@ pub record Entered {E : Type 0} (F : Form E) (a b : Reader) (e : E) : Type 0 whe
   pub good : F .Good value
   pub took : Took a b (lineOf F value ∷ [])
   pub entry : e ≡ F .entry (a .at) value
-
--- the next line is refused: bs has none, or it says no value of the form
-pub data Broken {E : Type 0} (F : Form E) (bs : List ℕ) : ℕ → Type 0 where
-  absent : Lacks 10 bs → Broken F bs 16
-  ill-formed : (l more : List ℕ) → Lacks 10 l → bs ≡ ended l ++ more → ((x : F .Value) → F .Good x → l ≡ lineOf F x → ⊥) → Broken F bs 15
-
-pub record NotEntered {E : Type 0} (F : Form E) (a : Reader) (f : Fault) : Type 0 where
-  pub number : ℕ
-  pub broken : Broken F (rest a) number
-  pub is : told f ≡ fileFault number (a .line + 1)
 
 -- the next line is a count, for which there is room, or there is none
 pub record Counted (room : ℕ) (a b : Reader) (n : ℕ) : Type 0 where

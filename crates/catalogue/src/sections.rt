@@ -3,7 +3,9 @@ ghost use mathlib.Core.Logic.{_⊎_};
 ghost use lib.ListN.{length};
 ghost use Rattle.std.specs.Results.{Cases};
 ghost use Rattle.catalogue.specs.Forms.{numberForm};
-ghost use Rattle.catalogue.specs.Sections.{Entered, NotEntered, Counted, Crowded, Section, NoSection};
+ghost use Rattle.text.specs.Lines.{rest};
+ghost use Rattle.text.specs.Layouts.{Refused};
+ghost use Rattle.catalogue.specs.Sections.{lineLayout, Entered, Counted, Crowded, Section, NoSection};
 use crate::rows::NumberRow;
 use crate::rows::Row;
 use fault::Fault;
@@ -13,7 +15,7 @@ use text::reader::Reader;
 pub(crate) fn entry<R: Row>(reader: &mut Reader<'_>) -> Result<R, Fault>
     ensures { λ r. ⌜ Cases r
         (λ e. Entered form (now (reader .entry)) (now (reader .exit)) e)
-        (λ f. NotEntered form (now (reader .entry)) f) ⌝ }
+        (λ f. Refused (lineLayout form) (now (reader .entry) .line) (rest (now (reader .entry))) f) ⌝ }
 {
     let line = reader.line()?;
     R::row(line)
@@ -23,7 +25,7 @@ pub(crate) fn entry<R: Row>(reader: &mut Reader<'_>) -> Result<R, Fault>
 fn count(reader: &mut Reader<'_>, room: usize) -> Result<usize, Fault>
     ensures { λ r. ⌜ Cases r
         (λ n. Counted room (now (reader .entry)) (now (reader .exit)) n)
-        (λ f. NotEntered numberForm (now (reader .entry)) f ⊎ Crowded room (now (reader .entry)) f) ⌝ }
+        (λ f. Refused (lineLayout numberForm) (now (reader .entry) .line) (rest (now (reader .entry))) f ⊎ Crowded room (now (reader .entry)) f) ⌝ }
 {
     let n = entry::<u32>(reader)? as usize;
     if n > room {

@@ -17,7 +17,7 @@ use Rattle.text.proofs.Cuts.{lacks-cut, one-cut}
 pub nothing-is-some : {X : Type 0} (x : X) (xs : List X) → [] ≡ x ∷ xs → ⊥
 nothing-is-some x xs e = let z : _≡_ {A = ℕ} 0 1 = cc in omega arith
 
-nothing-is-more : {X : Type 0} (ys : List X) (x : X) (xs : List X) → [] ≡ ys ++ x ∷ xs → ⊥
+pub nothing-is-more : {X : Type 0} (ys : List X) (x : X) (xs : List X) → [] ≡ ys ++ x ∷ xs → ⊥
 nothing-is-more [] x xs e = nothing-is-some x xs e
 nothing-is-more (y ∷ ys) x xs e = nothing-is-some y (ys ++ x ∷ xs) e
 
