@@ -3,16 +3,14 @@ use mathlib.Core.Path.{_≡_, refl, sym, ap, subst, _∙_}
 use mathlib.Core.List.{List, [], _∷_, _++_, map, append-nil}
 use Prim.Native.Nat.{ℕ, _+_, _-_, _≤_, _<_}
 use native.Mathlib.Omega.{arith}
-use lib.ListN.{length, take, drop}
+use lib.ListN.{length, take}
 use Rattle.std.specs.shelf.Lists.{All}
 use Rattle.std.proofs.shelf.Lists.{take-all, length-map}
 use Rattle.fault.specs.declared.Fault.{Fault}
-use Rattle.fault.specs.Told.{told, fileFault}
 use Rattle.text.specs.declared.reader.Reader.{Reader}
 use Rattle.text.specs.Fields.{Small}
 use Rattle.text.specs.Lines.{ended, Fresh, rest}
-use Rattle.text.specs.Layouts as layouts
-use Rattle.text.specs.Layouts.{Layout, No, Refused}
+use Rattle.text.specs.Layouts.{Refused}
 use Rattle.text.proofs.Parts.{Part, Sound, Reads, Stops, next, next-sound, stops-first, Reached, reached-none, reached-next}
 use Rattle.diagram.specs.declared.BitNode.{BitNode}
 use Rattle.diagram.specs.declared.ColumnNode.{ColumnNode}

@@ -1,8 +1,8 @@
 -- Sections: that their lines tell them apart, how a table fills, and where one is refused. Assumes nothing.
 use mathlib.Core.Path.{_≡_, refl, sym, ap, subst, _∙_}
 use mathlib.Core.List.{List, [], _∷_, _++_, map, append-assoc, append-nil}
-use mathlib.Core.Logic.{_⊎_, inl, inr, ⊎-elim}
-use Prim.Native.Nat.{ℕ, zero, suc, _+_, _-_, _≤_, _<_}
+use mathlib.Core.Logic.{_⊎_, inl, inr}
+use Prim.Native.Nat.{ℕ, zero, suc, _+_, _-_, _<_}
 use native.Mathlib.Nat.{add-zero}
 use native.Mathlib.Omega.{arith}
 use lib.ListN.{length, getD, take, drop, set, replicate, length-append, length-replicate}
@@ -12,14 +12,14 @@ use Rattle.std.proofs.shelf.Lists.{length-push, length-map, drop-more, set-at, 
 use Rattle.fault.specs.declared.Fault.{Fault}
 use Rattle.fault.specs.Told.{told, fileFault}
 use Rattle.text.specs.declared.reader.Reader.{Reader}
-use Rattle.text.specs.Fields.{Lacks, Small}
+use Rattle.text.specs.Fields.{Small}
 use Rattle.text.specs.Lines.{ended, textOf, rest, Took}
 use Rattle.text.specs.Layouts as layouts
-use Rattle.text.specs.Layouts.{Layout, GoesOn, No, Refused}
-use Rattle.text.proofs.Layouts.{Coded, Clean, CleanLines, nothing-is-some, text-append}
+use Rattle.text.specs.Layouts.{No, Refused}
+use Rattle.text.proofs.Layouts.{Coded, Clean, CleanLines, nothing-is-some}
 use Rattle.text.proofs.Takes.{took-none, took-more}
 use Rattle.catalogue.specs.Forms.{Form, lineOf, Lawful, numberForm}
-use Rattle.catalogue.specs.Sections.{sectionLines, sectionLayout, lineLayout, placed, entries, over, filled, Entered, Counted, Crowded, Section, NoSection}
+use Rattle.catalogue.specs.Sections.{sectionLines, sectionLayout, lineLayout, placed, entries, over, Entered, Counted, Crowded, Section, NoSection}
 use Rattle.catalogue.proofs.Numbers.{number-lawful}
 use Rattle.catalogue.proofs.Lines.{Broken, absent, ill-formed, NotEntered, not-entered-by, line-clean, line-one}
 
@@ -60,10 +60,6 @@ module _ {E : Type 0} (F : Form E) (law : Lawful F) where
 
   pub section-clean : (room : ℕ) → CleanLines (sectionLayout F room)
   section-clean room xs good = (line-clean numberForm number-lawful (length xs) (good .1, tt), rows-clean xs (good .0))
-
-  -- a section of n examples
-  examples : ℕ → List (F .Value)
-  examples n = replicate n (law .example)
 
   examples-good : (n : ℕ) → All (F .Good) (replicate n (law .example))
   examples-good zero = tt
@@ -109,9 +105,6 @@ module _ {E : Type 0} (F : Form E) (law : Lawful F) where
     pub count : length values ≡ i
     pub took : Took a b (map (lineOf F) values)
     pub table : after ≡ over (placed F (a .at) values) before
-
-  pub rows-none : (a : Reader) (t : List E) → Rows a a t t 0
-  rows-none a t = record { values = []; good = tt; count = refl; took = took-none a; table = refl }
 
   pub rows-more : (a b c : Reader) (t u : List E) (i : ℕ) (e : E) → i < length t → Rows a b t u i → Entered F b c e → Rows a c t (set u i e) (i + 1)
   rows-more a b c t u i e lt rows entered =

@@ -2,7 +2,7 @@
 use mathlib.Core.Path.{_≡_, refl, sym, ap, subst, _∙_}
 use mathlib.Core.List.{List, [], _∷_, _++_, map, append-assoc, append-nil}
 use mathlib.Core.Logic.{_⊎_, inl, inr}
-use Prim.Native.Nat.{ℕ, _+_, _-_, _≤_, _<_}
+use Prim.Native.Nat.{ℕ, _+_, _-_, _<_}
 use native.Mathlib.Omega.{arith}
 use lib.ListN.{length, take, drop, length-append}
 use Rattle.std.specs.Written.{decimal}
@@ -13,16 +13,16 @@ use Rattle.fault.specs.declared.Fault.{Fault}
 use Rattle.fault.specs.Told.{told, fileFault}
 use Rattle.text.specs.declared.reader.Reader.{Reader}
 use Rattle.text.specs.Lines.{ended, textOf, Fresh, rest}
-use Rattle.text.specs.Layouts.{Layout, GoesOn, No, absent, ill-formed, too-small, Refused, Surplus}
+use Rattle.text.specs.Layouts.{GoesOn, No, absent, ill-formed, too-small, Refused, Surplus}
 use Rattle.text.proofs.Layouts.{Coded, CleanLines, same-place, not-refused, one-content, one-fault, no-fault, text-append}
 use Rattle.text.proofs.Parts.{Reads, Stops}
 use Rattle.catalogue.specs.declared.entries.Contents.{Contents}
 use Rattle.catalogue.specs.declared.entries.Kind.{Kind}
 use Rattle.catalogue.specs.declared.entries.Kind.the-variants.{Bit, Column}
 use Rattle.catalogue.specs.Forms.{lineOf, numberForm}
-use Rattle.catalogue.specs.Sections.{sectionLines, placed, over, filled}
+use Rattle.catalogue.specs.Sections.{sectionLines, placed}
 use Rattle.catalogue.specs.Content.{kindForm, Named, featureForm, bitForm, columnForm, callForm, RecordsOf, recordLines, Content, Tables, lines, Good, Fits, catalogueLayout}
-use Rattle.catalogue.specs.Whole.{featureEntries, bitTable, columnTable, bitsOver, columnsOver, recordCount, held, full, contents, nameIn, NamesIn, Accepted, Stopped, inside, behind, Denied}
+use Rattle.catalogue.specs.Whole.{featureEntries, bitTable, columnTable, bitsOver, columnsOver, recordCount, held, full, contents, NamesIn, Accepted, Stopped, inside, behind, Denied}
 use Rattle.catalogue.proofs.Words.{feature-lawful}
 use Rattle.catalogue.proofs.Tables.{placed-length}
 use Rattle.catalogue.proofs.Stages.{fromKind, fromKind-sound, pack, unpack, filled-all, section-length}

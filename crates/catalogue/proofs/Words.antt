@@ -19,7 +19,6 @@ use Rattle.catalogue.specs.declared.entries.Call.{Call}
 use Rattle.catalogue.specs.declared.entries.Call.the-variants.{Choose, Back, Ceiling, Lift}
 use Rattle.catalogue.specs.declared.entries.Kind.{Kind}
 use Rattle.catalogue.specs.declared.entries.Kind.the-variants.{Bit, Column}
-use Rattle.catalogue.specs.declared.entries.One.{One}
 use Rattle.catalogue.specs.Forms.{Plain, Lawful, Said, Unsaid}
 use Rattle.catalogue.specs.Content.{kindName, kindForm, oneForm, Named, featureForm, callWord, callNumbers, callForm}
 use Rattle.catalogue.proofs.Numbers.{Row-of, No-row-of, elements, plain-number, plain-numbers, same-number, same-numbers}

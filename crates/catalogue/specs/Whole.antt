@@ -18,7 +18,7 @@ use Rattle.catalogue.specs.declared.entries.Kind.{Kind}
 use Rattle.catalogue.specs.declared.entries.Kind.the-variants.{Bit, Column}
 use Rattle.catalogue.specs.Forms.{lineOf, numberForm}
 use Rattle.catalogue.specs.Sections.{sectionLines, entries, over, filled, Section, NoSection}
-use Rattle.catalogue.specs.Content.{kindForm, Named, featureForm, bitForm, columnForm, callForm, RecordsOf, recordLines, Content, Tables, lines, Good, Fits, catalogueLayout}
+use Rattle.catalogue.specs.Content.{kindForm, Named, featureForm, bitForm, columnForm, RecordsOf, recordLines, Content, Tables, lines, Good, Fits, catalogueLayout}
 
 -- the entries of the features, whose section begins after line 1
 abbrev pub featureEntries : Content → List Feature

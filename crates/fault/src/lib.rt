@@ -99,10 +99,13 @@ impl Fault {
     pub fn layer(&self) -> Layer
         ensures { λ r. ⌜ r ≡ told (now (self .entry)) .layer ⌝ }
     {
-        match self.number() {
-            1..=5 => Layer::Table,
-            6..=14 => Layer::Slip,
-            _ => Layer::File,
+        let number = self.number();
+        if number <= 5 {
+            Layer::Table
+        } else if number <= 14 {
+            Layer::Slip
+        } else {
+            Layer::File
         }
     }
 
@@ -149,5 +152,60 @@ pub impl fmt::Display for Fault as FaultDisplay {
         let place = self.place();
         let line = self.line();
         write!(f, "fault {number} {layer} {place} {line}")
+    }
+}
+
+#[cfg(test)]
+mod tests {
+    use super::Fault;
+    use super::FaultDisplay;
+    use std::alloc::Global;
+    use std::test::*;
+
+    fn prints(heap: Global, fault: Fault, line: &str) -> Result<(), Fail> {
+        check_eq(fault.to_string(heap)?.as_str(), line)
+    }
+
+    // One fault of each layer and of each way to have a place and a line.
+    #[test]
+    fn lines(rt: LibcRuntime) -> Result<(), Fail> {
+        prints(
+            rt.alloc(),
+            Fault::BadFeatureCount { line: 2 },
+            "fault 1 table 0 2",
+        )?;
+        prints(
+            rt.alloc(),
+            Fault::BadValueCount {
+                feature: 4,
+                line: 7,
+            },
+            "fault 1 table 4 7",
+        )?;
+        prints(
+            rt.alloc(),
+            Fault::BadLink {
+                record: 3,
+                line: 12,
+            },
+            "fault 4 table 3 12",
+        )?;
+        prints(rt.alloc(), Fault::PriceCount, "fault 6 slip 0 0")?;
+        prints(
+            rt.alloc(),
+            Fault::NoSuchValue { feature: 23 },
+            "fault 10 slip 23 0",
+        )?;
+        prints(
+            rt.alloc(),
+            Fault::ChoiceWouldNotFit { feature: 2 },
+            "fault 14 slip 2 0",
+        )?;
+        prints(rt.alloc(), Fault::CeilingWouldNotFit, "fault 14 slip 0 0")?;
+        prints(
+            rt.alloc(),
+            Fault::TableTooSmall { line: 0 },
+            "fault 17 file 0 0",
+        )
     }
 }

@@ -1,9 +1,9 @@
 -- Where a list is cut at a byte. Assumes nothing.
 use mathlib.Core.Path.{_≡_, refl, sym, ap, subst, _∙_}
 use mathlib.Core.List.{List, [], _∷_, _++_, append-assoc, append-nil}
-use Prim.Native.Nat.{ℕ, _+_, _-_, _≤_, _<_}
+use Prim.Native.Nat.{ℕ, _+_, _-_, _<_}
 use native.Mathlib.Omega.{arith}
-use lib.ListN.{length, getD, take, drop, length-append}
+use lib.ListN.{length, getD, take, drop}
 use Rattle.std.proofs.shelf.Lists.{take-all, take-append-drop, drop-more, take-rest, drop-drop, length-push, length-take-le}
 use Rattle.text.specs.Fields.{Lacks}
 use Rattle.text.specs.Lines.{ended, textOf}

@@ -1,13 +1,13 @@
 -- The parts of a text, each with what it does to the tables of type T. Assumes nothing.
 use mathlib.Core.Path.{_≡_, refl, sym, ap, subst, _∙_}
-use mathlib.Core.List.{List, [], _∷_, _++_, append-assoc, append-nil}
+use mathlib.Core.List.{List, _∷_, _++_, append-assoc}
 use mathlib.Core.Logic.{_⊎_, ⊎-elim}
-use Prim.Native.Nat.{ℕ, _+_, _-_, _≤_, _<_}
+use Prim.Native.Nat.{ℕ, _+_, _-_, _≤_}
 use native.Mathlib.Omega.{arith}
 use lib.ListN.{length, length-append}
 use Rattle.fault.specs.declared.Fault.{Fault}
 use Rattle.text.specs.declared.reader.Reader.{Reader}
-use Rattle.text.specs.Lines.{textOf, rest, Took}
+use Rattle.text.specs.Lines.{rest, Took}
 use Rattle.text.specs.Layouts.{Layout, Refused}
 use Rattle.text.proofs.Layouts.{Coded, CleanLines, reach, then, then-coded, then-clean, refused-then, refused-first}
 use Rattle.text.proofs.Takes.{took-more}

@@ -1,6 +1,6 @@
 -- What is left of a line, and what a token is.
 use mathlib.Core.Path.{_≡_}
-use mathlib.Core.List.{List, [], _∷_}
+use mathlib.Core.List.{List, []}
 use Prim.Native.Nat.{ℕ}
 use denote.Ref.{RefT}
 use lib.ListN.{drop}

@@ -1,6 +1,5 @@
 use mathlib.Core.Path.{refl}
 use Rattle.std.proofs.shelf.Tests.{false≢true}
-use Prim.Native.Nat.{ℕ}
 use native.Mathlib.Omega.{arith}
 use Rattle.std.proofs.shelf.Elements.{all-more, all-getD}
 use Rattle.std.proofs.shelf.Lists.{take-all}

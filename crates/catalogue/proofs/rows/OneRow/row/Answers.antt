@@ -1,5 +1,4 @@
 use mathlib.Core.Path.{refl}
-use native.Mathlib.Omega.{arith}
 use Rattle.std.proofs.shelf.Results.{err-from-errBy}
 use Rattle.catalogue.proofs.Words.{said-one, unsaid-one, unsaid-other}
 use Rattle.catalogue.proofs.rows.OneRow.row.Needs as need
