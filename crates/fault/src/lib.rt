@@ -4,7 +4,8 @@ ghost use Rattle.std.specs.declared.option.Option.the-variants.{Some};
 ghost use Rattle.fault.specs.Told.{told, layerName, faultLine};
 use std::fmt;
 
-// The part of the system that refuses: the reader of texts, the check of a table, or a call on a slip.
+// The part of the system that refuses: the reader of texts, the check of a diagram's table, or a call on a slip. A slip is
+// what a customer has settled so far: choices, and a price ceiling or none.
 #[derive(Clone, Copy, Debug, PartialEq)]
 pub enum Layer {
     File,
@@ -41,7 +42,7 @@ pub enum Fault {
     BadStart { line: usize },
     // The price list has not one cost a value.
     PriceCount,
-    // A work strip is too short.
+    // A work strip (a lent table for the costs that a call works out) is too short.
     StripLength,
     // The slip has another number of features than the book, or a choice that is no value there.
     SlipOfAnotherBook,
@@ -51,7 +52,7 @@ pub enum Fault {
     // The result has not one place a feature.
     ResultLength,
     FeatureNotChosen,
-    // No full set fits the slip.
+    // No full set (one value for every feature) fits the slip.
     NothingFits,
     // No full set would fit the slip with this choice of the feature.
     ChoiceWouldNotFit { feature: usize },
