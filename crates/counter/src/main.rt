@@ -1,6 +1,4 @@
 // Reads a catalogue from standard input and says what it found, or what is wrong and where.
-use catalogue::entries::Contents;
-use fault::Fault;
 use std::error::AnyError;
 use std::io::Read;
 
@@ -11,12 +9,11 @@ use report::Report;
 use report::ReportDisplay;
 use survey::survey;
 
-// One byte more than a catalogue may have, so that a longer input is seen to be one.
-const MOST: u64 = 16385;
-
 fn main(rt: LibcRuntime) -> Result<(), AnyError> {
+    // One byte more than a catalogue may have, so that a longer input is seen to be one.
+    let most = survey::LIMIT as u64 + 1;
     let mut text = Vec::new(rt.alloc());
-    rt.stdin().take(MOST).read_to_end(&mut text)?;
+    rt.stdin().take(most).read_to_end(&mut text)?;
     let found = survey(&text);
     let report = Report { found };
     println!(rt, "{report}")?;

@@ -9,7 +9,7 @@ use diagram::ColumnNode;
 use fault::Fault;
 
 // The most bytes that a catalogue may have.
-const LIMIT: usize = 16384;
+pub const LIMIT: usize = 16384;
 
 // What a catalogue of at most 16,384 bytes says, or why it is refused. There are tables for 24 features, 64 records of
 // either form, 384 prices and 64 calls. One step a byte of the text; nothing is allocated.
