@@ -12,8 +12,8 @@ use text::reader::Reader;
 // The entry of the next line. One step a byte of it.
 pub(crate) fn entry<R: Row>(reader: &mut Reader<'_>) -> Result<R, Fault>
     ensures { MatchResult result
-        (λ e. Entered form reader.old reader.new e)
-        (λ f. Refused (line_layout form) reader.old.line (rest reader.old) f) }
+        (λ e. Entered R.form reader.old reader.new e)
+        (λ f. Refused (line_layout R.form) reader.old.line (rest reader.old) f) }
 {
     let line = reader.line()?;
     R::row(line)
@@ -35,8 +35,8 @@ fn count(reader: &mut Reader<'_>, room: usize) -> Result<usize, Fault>
 // A whole section into its table; answers how many entries it has. One step a byte of the section.
 pub(crate) fn section<R: Row>(reader: &mut Reader<'_>, table: &mut [R]) -> Result<usize, Fault>
     ensures { MatchResult result
-        (λ n. Section form reader.old reader.new table.old table.new n)
-        (λ f. NoSection form reader.old table.old table.new f) }
+        (λ n. Section R.form reader.old reader.new table.old table.new n)
+        (λ f. NoSection R.form reader.old table.old table.new f) }
 {
     let n = count(reader, table.len())?;
     for i in 0..n {

@@ -1,4 +1,6 @@
 // Every refusal of the system, by one enum: what is wrong, and where.
+#![tactic(auto)]
+
 ghost use Rattle.std.specs.Prelude.{◌≡◌, Some};
 ghost use Rattle.fault.specs.Told.{told, layer_name, fault_line};
 

@@ -3,9 +3,7 @@ use Rattle.std.specs.Prelude.{◌≡◌, ℕ, List, [], drop, Some, None, Option
 use Rattle.std.specs.Borrow.{Bor}
 use Rattle.text.specs.declared.line.Line.{Line}
 use Rattle.text.specs.declared.line.Token.{Token}
-use Rattle.text.specs.declared.line.Token.TheVariants as Token
 use Rattle.text.specs.declared.line.Want.{Want}
-use Rattle.text.specs.declared.line.Want.TheVariants as Want
 use Rattle.text.specs.Fields.{IsName, IsNumber, fields}
 
 abbrev pub fields_in : Option (Bor (List ℕ)) → List (List ℕ)

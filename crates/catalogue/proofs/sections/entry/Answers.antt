@@ -2,15 +2,15 @@ use Rattle.std.proofs.lemmas.Result.{err_from_is_err_and, MatchResult-weaker}
 use Rattle.catalogue.proofs.Lines.{absent, line_refused, entered, not_entered}
 use Rattle.catalogue.proofs.sections.entry.Goals as goal
 
-pub returns-in-err-line : goal.returns-in-err-line
-returns-in-err-line g c =
-    let found = c.in-err-line.ensures in
-    let p = err_from_is_err_and c.from-residual.result c.from-residual.ensures.1 in
+pub returns-in_err-line : goal.returns-in_err-line
+returns-in_err-line g c =
+    let found = c.in_err-line.ensures in
+    let p = err_from_is_err_and c.from_residual.result c.from_residual.ensures.1 in
     rw (p.1, p.2) (line_refused g.R.Row.form g.met.R.Row.lawful _ _ _ (record { number = 16; broken = absent found.1; is = found.0 }))
 
 pub returns : goal.returns
 returns g c =
-    let cut = c.in-ok-line.ensures in
+    let cut = c.in_ok-line.ensures in
     MatchResult-weaker c.row.result c.row.ensures
     (λ e said. entered g.R.Row.form g.met.R.Row.lawful _ _ _ e cut said)
     (λ f unsaid. line_refused g.R.Row.form g.met.R.Row.lawful _ _ f (not_entered g.R.Row.form g.met.R.Row.lawful _ _ _ f cut unsaid))

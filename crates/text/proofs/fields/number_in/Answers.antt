@@ -11,11 +11,11 @@ returns-then-field-eq48 c = λ n is. let lead = no_lead c.args.field.now n is c.
 pub returns-then-b-lt48 : goal.returns-then-b-lt48
 returns-then-b-lt48 c = λ n is. let a = digit c.args.field.now n is c.loop-b.b-index (omega arith) in grind arith
 
-pub overflow-mul-value : goal.overflow-mul-value
-overflow-mul-value c = omega (arith, small c.args.field.now c.loop-b.b-index c.loop-b.value (omega arith) (omega arith) c.loop-b.invariant)
+pub overflow_mul-value : goal.overflow_mul-value
+overflow_mul-value c = omega (arith, small c.args.field.now c.loop-b.b-index c.loop-b.value (omega arith) (omega arith) c.loop-b.invariant)
 
-pub overflow-add-value : goal.overflow-add-value
-overflow-add-value c = omega (arith, small c.args.field.now c.loop-b.b-index c.loop-b.value (omega arith) (omega arith) c.loop-b.invariant)
+pub overflow_add-value : goal.overflow_add-value
+overflow_add-value c = omega (arith, small c.args.field.now c.loop-b.b-index c.loop-b.value (omega arith) (omega arith) c.loop-b.invariant)
 
 pub loop-b-preserved : goal.loop-b-preserved
 loop-b-preserved c = more c.args.field.now c.loop-b.b-index c.loop-b.value (omega arith) c.loop-b.invariant (omega arith) (omega arith)
