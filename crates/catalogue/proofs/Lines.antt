@@ -7,7 +7,6 @@ use Rattle.fault.specs.Told.{told, file_fault}
 use Rattle.text.specs.declared.line.Line.{Line}
 use Rattle.text.specs.declared.reader.Reader.{Reader}
 use Rattle.text.specs.Fields.{Lacks, behind, spaced, fields}
-use Rattle.text.specs.Tokens.{left}
 use Rattle.text.specs.Lines.{ended, text_of, rest, Took, Cut}
 use Rattle.text.specs.Layouts as layouts
 use Rattle.text.specs.Layouts.{No, Refused}

@@ -12,7 +12,7 @@ use Rattle.text.specs.Lines.{ended, text_of, rest, Took}
 use Rattle.text.specs.Layouts as layouts
 use Rattle.text.specs.Layouts.{No, Refused}
 use Rattle.text.proofs.Layouts.{Coded, Clean, CleanLines, nothing_is_some}
-use Rattle.text.proofs.Takes.{took_none, took_more}
+use Rattle.text.proofs.Takes.{took_more}
 use Rattle.catalogue.specs.Forms.{Form, line_of, Lawful, number_form}
 use Rattle.catalogue.specs.Sections.{section_lines, section_layout, line_layout, placed, entries, over, Entered, Counted, Crowded, Section, NoSection}
 use Rattle.catalogue.specs.Numbers.{number_lawful}

@@ -1,4 +1,6 @@
 // Reads a catalogue from its text into tables that are lent.
+#![tactic(auto)]
+
 pub mod entries;
 pub mod rows;
 mod sections;

@@ -34,8 +34,8 @@ fn example(rt: HostRuntime) -> Result<(), Fail> {
     );
     assert_eq!(rt; features[1], feature(11, 6, 2));
     assert_eq!(rt; features[3], NO_FEATURE);
-    assert_eq!(rt; features[1].name(EXAMPLE), Some(b"finish"));
-    assert_eq!(rt; features[2].name(EXAMPLE), Some(b"card"));
+    assert_eq!(rt; features[1].name(EXAMPLE), Some(b"finish".as_slice()));
+    assert_eq!(rt; features[2].name(EXAMPLE), Some(b"card".as_slice()));
     assert_eq!(rt; features[3].name(EXAMPLE), None);
     assert_eq!(rt; bits[1], bit(1, 1, 4));
     assert_eq!(rt; bits[3], NO_BIT);
@@ -182,8 +182,8 @@ fn stays(rt: HostRuntime) -> Result<(), Fail> {
 // A name is taken from the text that it was read from, and not past the end of a shorter one.
 #[test]
 fn names(rt: HostRuntime) {
-    assert_eq!(rt; feature(2, 3, 1).name(b"B\nabc 1"), Some(b"abc"));
+    assert_eq!(rt; feature(2, 3, 1).name(b"B\nabc 1"), Some(b"abc".as_slice()));
     assert_eq!(rt; feature(4, 3, 1).name(b"B\nabc"), None);
-    assert_eq!(rt; feature(5, 0, 1).name(b"B\nabc"), Some(b""));
+    assert_eq!(rt; feature(5, 0, 1).name(b"B\nabc"), Some(b"".as_slice()));
     assert_eq!(rt; feature(18446744073709551615, 1, 1).name(b"B\nabc"), None);
 }

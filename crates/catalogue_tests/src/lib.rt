@@ -1,3 +1,5 @@
+#![tactic(auto)]
+
 // Worked catalogues, and tables of broken ones with the question and the line that refuse each.
 #[cfg(test)]
 mod accepted;

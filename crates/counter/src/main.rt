@@ -1,4 +1,5 @@
 // Reads a catalogue from standard input and says what it found, or what is wrong and where.
+#![tactic(auto)]
 
 mod input;
 mod report;
