@@ -50,7 +50,7 @@ pub trait Tariff {
 
 // All costs joined in order. One step a cost.
 pub fn total<T: Tariff>(prices: &[T::Cost]) -> T::Cost
-    ensures { result ≡ total costs prices.now }
+    ensures { result ≡ total T.costs prices.now }
 {
     let mut sum = T::neutral();
     for price in prices {
