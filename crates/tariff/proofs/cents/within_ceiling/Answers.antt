@@ -4,6 +4,6 @@ use Rattle.tariff.proofs.cents.within_ceiling.Goals as goal
 pub returns : goal.returns
 returns c =
     record {
-      lower = tests_true_sum c.total.result c.args.ceiling _ c.not-dearer.ensures c.args.prices.now c.total.ensures;
-      largest = holds_all c.total.result c.args.ceiling _ c.not-dearer.ensures;
+      lower = tests_true_sum c.total.result c.args.ceiling _ c.not_dearer.ensures c.args.prices.now c.total.ensures;
+      largest = holds_all c.total.result c.args.ceiling _ c.not_dearer.ensures;
     }
