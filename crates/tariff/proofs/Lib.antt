@@ -1,2 +1,3 @@
+pub mod SpecialSums
 pub mod StoppedSums
 pub mod Totals

@@ -1,15 +1,16 @@
 -- Prices in cents.
 use Rattle.std.specs.Prelude.{ℕ, ◌+◌, ◌<◌, min, Bool, nat_le}
-use Rattle.std.proofs.Common.{arith}
+use Rattle.std.proofs.Common.{lit<}
+use Rattle.std.proofs.Math.Nat.{min-le_right, lt_of_le_of_lt}
 use Rattle.tariff.specs.Costs.{Costs}
 use Rattle.tariff.specs.declared.costs.Money.{Money}
 
 -- a number of cents stopped at the largest fits
 pub stopped_fits : (n : ℕ) → min n 4294967295 < 4294967296
-stopped_fits n = omega arith
+stopped_fits n = lt_of_le_of_lt (min-le_right n 4294967295) (lit< tt)
 
 abbrev pub no_money : Money
-no_money = record { cents = 0; fits = omega arith }
+no_money = record { cents = 0; fits = lit< tt }
 
 -- the sum, stopped at the largest
 abbrev pub sum_of_money : Money → Money → Money

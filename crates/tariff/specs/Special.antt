@@ -1,15 +1,14 @@
 -- Special parts with their price.
 use Rattle.std.specs.Prelude.{ℕ, ◌+◌, ◌<◌, ◌≤◌, min, Bool, true, false, ◌&&◌, ◌||◌, ◌⊎◌, ◌==◌, nat_le, nat_lt}
-use Rattle.std.proofs.Common.{inl, inr, arith}
+use Rattle.std.proofs.Common.{inl, inr, lit<}
 use Rattle.std.proofs.lemmas.Bool.{cases_lt}
 use Rattle.tariff.specs.Costs.{Costs}
 use Rattle.tariff.specs.Money.{stopped_fits}
-use Rattle.tariff.specs.declared.costs.Amount.{Amount}
 use Rattle.tariff.specs.declared.costs.Special.{Special}
 use Rattle.tariff.specs.declared.costs.Special.TheVariants.{Parts, Beyond}
 
 abbrev pub no_parts : Special
-no_parts = Parts (record { count = 0; cents = 0; few = omega arith; fits = omega arith })
+no_parts = Parts (record { count = 0; cents = 0; few = lit< tt; fits = lit< tt })
 
 -- n parts for c cents, the cents stopped at the largest; beyond where n is more than are counted
 abbrev pub counted : (n c : ℕ) → (n < 65536) ⊎ (65536 ≤ n) → Special

@@ -29,7 +29,7 @@ abbrev price : Special → ℕ
 price (Parts a) = a.cents
 price Beyond = 0
 
-same_special : (x y : Special) → num x ≡ num y → price x ≡ price y → x ≡ y
+pub same_special : (x y : Special) → num x ≡ num y → price x ≡ price y → x ≡ y
 same_special (Parts a) (Parts b) n e = ap Parts (same_amount a b n e)
 same_special (Parts a) Beyond n e = absurd (omega arith)
 same_special Beyond (Parts b) n e = absurd (omega arith)
@@ -44,7 +44,7 @@ priced n c (inl h) = inl (h, refl, refl)
 priced n c (inr h) = inr (h, refl, refl)
 
 -- what a join comes to
-joined : (x y : Special) → Priced (num x + num y) (price x + price y) (sum_of_parts x y)
+pub joined : (x y : Special) → Priced (num x + num y) (price x + price y) (sum_of_parts x y)
 joined (Parts a) (Parts b) = priced (a.count + b.count) (a.cents + b.cents) (cases_lt (a.count + b.count) 65536)
 joined (Parts a) Beyond = inr (omega arith, refl, refl)
 joined Beyond (Parts b) = inr (omega arith, refl, refl)
@@ -100,11 +100,3 @@ special_lawful = record {
   mono_left = λ a b c h. within (sum_of_parts c a) (sum_of_parts c b) (grind (arith, under a b h, joined c a, joined c b));
   mono_right = λ a b c h. within (sum_of_parts a c) (sum_of_parts b c) (grind (arith, under a b h, joined a c, joined b c));
 }
-
--- an amount that is the sum of two, where they are few enough
-pub sum_is_parts : (x y r : Amount) → x.count + y.count < 65536 → r.count ≡ x.count + y.count → r.cents ≡ min (x.cents + y.cents) 4294967295 → Parts r ≡ sum_of_parts (Parts x) (Parts y)
-sum_is_parts x y r h n e = same_special _ _ (grind (arith, joined (Parts x) (Parts y))) (grind (arith, joined (Parts x) (Parts y)))
-
--- too many parts are beyond
-pub sum_is_beyond : (x y : Amount) → 65536 ≤ x.count + y.count → sum_of_parts (Parts x) (Parts y) ≡ Beyond
-sum_is_beyond x y h = same_special _ Beyond (grind (arith, joined (Parts x) (Parts y))) (grind (arith, joined (Parts x) (Parts y)))

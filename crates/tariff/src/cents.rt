@@ -3,7 +3,7 @@ ghost use Rattle.std.specs.Prelude.{◌≡◌, ◌<◌, ◌≤◌, true, Decides
 ghost use Rattle.tariff.specs.Money.{cents_costs};
 ghost use Rattle.tariff.specs.TrueSums.{true_sum};
 ghost use Rattle.tariff.specs.MoneyLaws.{money_lawful};
-ghost use Rattle.std.proofs.Common.{rules};
+ghost use Rattle.std.proofs.Common.{lit≤};
 
 use crate::costs::Money;
 use crate::{Tariff, total};
@@ -22,7 +22,7 @@ impl Tariff for Cents {
 
     ghost lawful = { money_lawful };
 
-    ghost few = { Prim.search rules };
+    ghost few = { (lit≤ tt, lit≤ tt) };
 
     fn number_count() -> usize {
         Self::NUMBERS

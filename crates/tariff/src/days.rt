@@ -1,7 +1,7 @@
 // Times in days, of which the longer counts.
 ghost use Rattle.tariff.specs.Days.{days_costs};
 ghost use Rattle.tariff.specs.DaysLaws.{days_lawful};
-ghost use Rattle.std.proofs.Common.{rules};
+ghost use Rattle.std.proofs.Common.{lit≤};
 
 use crate::Tariff;
 
@@ -19,7 +19,7 @@ impl Tariff for Days {
 
     ghost lawful = { days_lawful };
 
-    ghost few = { Prim.search rules };
+    ghost few = { (lit≤ tt, lit≤ tt) };
 
     fn number_count() -> usize {
         Self::NUMBERS

@@ -1,4 +1,6 @@
 // A tariff is a kind of cost: the cost of nothing, how two costs join, and which of two is not dearer.
+#![tactic(auto)]
+
 ghost use Rattle.std.specs.Prelude.{◌≡◌, ℕ, ◌≤◌};
 ghost use Rattle.tariff.specs.Costs.{Costs, Lawful, total};
 

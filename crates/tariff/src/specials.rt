@@ -1,7 +1,7 @@
 // Special parts: few parts matter most, then what they cost.
 ghost use Rattle.tariff.specs.Special.{specials_costs};
 ghost use Rattle.tariff.specs.SpecialLaws.{special_lawful};
-ghost use Rattle.std.proofs.Common.{rules};
+ghost use Rattle.std.proofs.Common.{lit≤};
 
 use crate::Tariff;
 use crate::costs::{Amount, Special};
@@ -20,7 +20,7 @@ impl Tariff for Specials {
 
     ghost lawful = { special_lawful };
 
-    ghost few = { Prim.search rules };
+    ghost few = { (lit≤ tt, lit≤ tt) };
 
     fn number_count() -> usize {
         Self::NUMBERS

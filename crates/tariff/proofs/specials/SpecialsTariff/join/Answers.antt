@@ -1,4 +1,4 @@
-use Rattle.tariff.specs.SpecialLaws.{sum_is_parts}
+use Rattle.tariff.proofs.SpecialSums.{sum_is_parts}
 use Rattle.tariff.proofs.specials.SpecialsTariff.join.Goals as goal
 
 pub returns-in-Some : goal.returns-in-Some
