@@ -9,7 +9,7 @@ use Rattle.catalogue.specs.Sections.{placed}
 use Rattle.catalogue.specs.Content.{Content, Named, Tables, feature_form}
 use Rattle.catalogue.specs.Whole.{feature_entries, full}
 use Rattle.catalogue.proofs.Tables.{placed-length}
-use Rattle.catalogue.specs.Words.{feature_lawful}
+use Rattle.catalogue.specs.WordLaws.{feature_lawful}
 
 abbrev pub valued : List Feature → List ℕ
 valued fs = map (λ f. f.values) fs

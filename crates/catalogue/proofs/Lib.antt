@@ -1,3 +1,5 @@
+pub mod Numbers
+pub mod Words
 pub mod Lines
 pub mod Tables
 pub mod Stages

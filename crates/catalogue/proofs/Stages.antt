@@ -20,9 +20,9 @@ use Rattle.catalogue.specs.Forms.{Form, line_of, Lawful, number_form}
 use Rattle.catalogue.specs.Sections.{section_lines, section_layout, line_layout, placed, entries, over, filled, Entered, Section, NoSection}
 use Rattle.catalogue.specs.Content.{kind_form, one_form, feature_form, bit_form, column_form, call_form, RecordsOf, RecordsGood, RecordsFit, record_lines, Content, Tables}
 use Rattle.catalogue.specs.Whole.{bit_table, column_table, record_count, contents, Recorded, NotRecorded}
-use Rattle.catalogue.specs.Numbers.{number_lawful, bit_lawful, column_lawful}
+use Rattle.catalogue.specs.NumberLaws.{number_lawful, bit_lawful, column_lawful}
 use Rattle.catalogue.proofs.Tables.{line_coded, line_lines_clean, section_coded, section_clean, placed-length, rows_same, counts_same, take-placed}
-use Rattle.catalogue.specs.Words.{kind_lawful, one_lawful, feature_lawful, call_lawful}
+use Rattle.catalogue.specs.WordLaws.{kind_lawful, one_lawful, feature_lawful, call_lawful}
 
 -- a line that fills no table
 abbrev pub line_part : {E : Type 0} → Form E → Part Tables

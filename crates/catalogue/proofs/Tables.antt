@@ -15,7 +15,7 @@ use Rattle.text.proofs.Layouts.{Coded, Clean, CleanLines, nothing_is_some}
 use Rattle.text.proofs.Takes.{took_more}
 use Rattle.catalogue.specs.Forms.{Form, line_of, Lawful, number_form}
 use Rattle.catalogue.specs.Sections.{section_lines, section_layout, line_layout, placed, entries, over, Entered, Counted, Crowded, Section, NoSection}
-use Rattle.catalogue.specs.Numbers.{number_lawful}
+use Rattle.catalogue.specs.NumberLaws.{number_lawful}
 use Rattle.catalogue.proofs.Lines.{Broken, absent, ill_formed, NotEntered, not_entered_by, line_clean, line_one}
 
 -- a count tells its number

@@ -2,5 +2,5 @@ pub mod Forms
 pub mod Content
 pub mod Sections
 pub mod Whole
-pub mod Words
-pub mod Numbers
+pub mod NumberLaws
+pub mod WordLaws

@@ -2,8 +2,8 @@
 ghost use Rattle.std.specs.Prelude.{◌≡◌, Decides, MatchResult};
 ghost use Rattle.catalogue.specs.Forms.{Form, Lawful, Said, Unsaid, number_form};
 ghost use Rattle.catalogue.specs.Content.{kind_form, one_form, feature_form, bit_form, column_form, call_form};
-ghost use Rattle.catalogue.specs.Words.{kind_lawful, one_lawful, feature_lawful, call_lawful};
-ghost use Rattle.catalogue.specs.Numbers.{number_lawful, bit_lawful, column_lawful};
+ghost use Rattle.catalogue.specs.WordLaws.{kind_lawful, one_lawful, feature_lawful, call_lawful};
+ghost use Rattle.catalogue.specs.NumberLaws.{number_lawful, bit_lawful, column_lawful};
 
 use crate::entries::{Call, Feature, Kind, One};
 use diagram::{BitNode, ColumnNode};

@@ -1,5 +1,5 @@
 use Rattle.std.proofs.Common.{refl}
-use Rattle.catalogue.specs.Words.{said_call}
+use Rattle.catalogue.proofs.Words.{said_call}
 use Rattle.catalogue.proofs.rows.CallRow.row.Goals as goal
 
 pub returns-then-is_word : goal.returns-then-is_word

@@ -1,7 +1,7 @@
 use Rattle.std.proofs.Common.{refl}
 use Rattle.std.proofs.lemmas.Result.{err_from_is_err_and}
 use Rattle.catalogue.specs.Content.{column_numbers}
-use Rattle.catalogue.specs.Numbers.{said, unsaid}
+use Rattle.catalogue.proofs.Numbers.{said, unsaid}
 use Rattle.catalogue.proofs.rows.ColumnNodeRow.row.Goals as goal
 
 pub returns-in_err-column : goal.returns-in_err-column

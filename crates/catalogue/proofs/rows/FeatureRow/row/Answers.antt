@@ -1,6 +1,6 @@
 use Rattle.std.proofs.Common.{[], ◌∷◌, decimal}
 use Rattle.std.proofs.lemmas.Result.{err_from_is_err_and}
-use Rattle.catalogue.specs.Words.{said_feature, unsaid_values}
+use Rattle.catalogue.proofs.Words.{said_feature, unsaid_values}
 use Rattle.catalogue.proofs.rows.FeatureRow.row.Goals as goal
 
 pub returns-in_err-name : goal.returns-in_err-name

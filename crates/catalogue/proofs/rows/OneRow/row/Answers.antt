@@ -1,6 +1,6 @@
 use Rattle.std.proofs.Common.{refl}
 use Rattle.std.proofs.lemmas.Result.{err_from_is_err_and}
-use Rattle.catalogue.specs.Words.{said_one, unsaid_one, unsaid_other}
+use Rattle.catalogue.proofs.Words.{said_one, unsaid_one, unsaid_other}
 use Rattle.catalogue.proofs.rows.OneRow.row.Goals as goal
 
 pub returns-in_err-n : goal.returns-in_err-n

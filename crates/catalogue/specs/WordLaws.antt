@@ -1,20 +1,16 @@
--- Lines that begin with a word or a name. Assumes nothing.
-use Rattle.std.specs.Prelude.{◌≡◌, ℕ, List, [], ◌∷◌, map, length, codes, decimal, ◌≢◌, slice_index, refl}
-use Rattle.std.proofs.Common.{sym, ap, subst, ◌∙◌, arith, rules}
-use Rattle.std.specs.List.{range_with_len, AllByRecursion}
-use Rattle.fault.specs.declared.Fault.{Fault}
-use Rattle.fault.specs.Told.{told, file_fault}
-use Rattle.text.specs.declared.line.Line.{Line}
+-- Lines that begin with a word or a name tell what they say: the proofs of the laws that their impls show.
+use Rattle.std.specs.Prelude.{◌≡◌, ℕ, [], ◌∷◌, map, length, codes, decimal, refl}
+use Rattle.std.proofs.Common.{ap, arith, rules}
+use Rattle.std.specs.List.{AllByRecursion}
 use Rattle.text.specs.Fields.{Small, IsName}
-use Rattle.text.specs.Tokens.{left}
 use Rattle.text.proofs.Plain.{lacks_name}
 use Rattle.catalogue.specs.declared.entries.Call.{Call}
 use Rattle.catalogue.specs.declared.entries.Call.TheVariants.{Choose, Back, Ceiling, Lift}
 use Rattle.catalogue.specs.declared.entries.Kind.{Kind}
 use Rattle.catalogue.specs.declared.entries.Kind.TheVariants.{Bit, Column}
-use Rattle.catalogue.specs.Forms.{Plain, Lawful, Said, Unsaid}
+use Rattle.catalogue.specs.Forms.{Plain, Lawful}
 use Rattle.catalogue.specs.Content.{kind_name, kind_form, one_form, Named, feature_form, call_word, call_numbers, call_form}
-use Rattle.catalogue.specs.Numbers.{RowOf, NoRowOf, elements, plain_number, plain_numbers, same_number, same_numbers}
+use Rattle.catalogue.specs.NumberLaws.{plain_number, plain_numbers, same_number, same_numbers}
 
 kind_plain : (k : Kind) → Plain (kind_name k)
 kind_plain Bit = search rules
@@ -79,37 +75,3 @@ call_fields x y okx oky e =
 
 pub call_lawful : Lawful call_form
 call_lawful = record { example = Lift; example_good = tt; plain = λ x ok. (plain_call_word x, plain_numbers (call_numbers x) ok); one = call_fields }
-
--- what the code has read of a line, and what the line then says
-pub said_call : (n : ℕ) (l m : Line) (word ns : List ℕ) (x : Call) → left l ≡ word ∷ left m → word ≡ call_word x → RowOf n m ns → map (λ k. slice_index ns k) (range_with_len 0 n) ≡ call_numbers x → Said call_form l x
-said_call n l m word ns x first is row numbers =
-    let e = elements ns n row.0 ∙ numbers in
-    record { value = x; good = subst (AllByRecursion Small) e row.1; fields = first ∙ (λ i. is i ∷ (row.2 ∙ ap (map decimal) e) i); entry = refl }
-
-pub said_feature : (l m : Line) (name ns : List ℕ) → IsName name → left l ≡ name ∷ left m → m.start ≡ l.start → RowOf 1 m ns → Said feature_form l (record { place = m.start; length = length name; values = slice_index ns 0 })
-said_feature l m name ns ok first same row =
-    let e = elements ns 1 row.0 in
-    record {
-      value = record { name = name; values = slice_index ns 0 };
-      good = (ok, (subst (AllByRecursion Small) e row.1).0);
-      fields = first ∙ ap (λ r. name ∷ r) (row.2 ∙ ap (map decimal) e);
-      entry = ap (λ p. record { place = p; length = length name; values = slice_index ns 0 }) same;
-    }
-
-pub unsaid_values : (l m : Line) (name : List ℕ) (f : Fault) → left l ≡ name ∷ left m → m.number ≡ l.number → NoRowOf 1 m f → Unsaid feature_form l f
-unsaid_values l m name f first same none = record {
-  is = none.0 ∙ ap (file_fault 15) same;
-  never = λ x good e. let rest : left m ≡ map decimal (x.values ∷ []) = cc in none.1 (x.values ∷ []) refl (good.1, tt) rest;
-}
-
-pub said_one : (l : Line) (ns : List ℕ) → RowOf 1 l ns → slice_index ns 0 ≡ 1 → Said one_form l (record {})
-said_one l ns row is = record { value = record {}; good = tt; fields = row.2 ∙ ap (map decimal) (elements ns 1 row.0) ∙ ap (λ n. decimal n ∷ []) is; entry = refl }
-
-pub unsaid_one : (l : Line) (f : Fault) → NoRowOf 1 l f → Unsaid one_form l f
-unsaid_one l f none = record { is = none.0; never = λ x good e. none.1 (1 ∷ []) refl (omega arith, tt) e }
-
-pub unsaid_other : (l : Line) (ns : List ℕ) (f : Fault) → told f ≡ file_fault 15 l.number → RowOf 1 l ns → (slice_index ns 0 ≢ 1) → Unsaid one_form l f
-unsaid_other l ns f is row other = record {
-  is = is;
-  never = λ x good e. other (ap (λ ks. slice_index ks 0) (same_numbers ns (1 ∷ []) row.1 (omega arith, tt) (sym row.2 ∙ e)));
-}
