@@ -29,7 +29,7 @@ walk_of b xs = walk_from b 0 b.start xs
 -- what every book shows, where permits is its own meaning
 pub record BookLaws (b : Book) (permits : List ℕ → Type 0) : Type 0 where
   pub some_feature : 1 ≤ b.features
-  pub features_at_most : b.features ≤ 24
+  pub few_features : b.features ≤ 24
   pub some_value : (i : ℕ) → i < b.features → 1 ≤ b.values i
   pub few_values : (i : ℕ) → i < b.features → b.values i ≤ 16
   pub some_place : 1 ≤ b.places

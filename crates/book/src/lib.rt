@@ -1,5 +1,6 @@
 // Rule books: which full sets of values are permitted, and how a set is walked through a book place by place.
 #![tactic(auto)]
+
 ghost use Rattle.std.specs.Prelude.{◌≡◌, ℕ, ◌<◌, List, Decides};
 ghost use Rattle.book.specs.Books.{Book, BookLaws, FullSet, walk_of};
 

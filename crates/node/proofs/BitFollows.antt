@@ -1,9 +1,9 @@
 -- The tests of a feature's bits.
-use Rattle.std.proofs.Common.{◌≡◌, ℕ, zero, suc, ◌+◌, ◌-◌, ◌<◌, ◌≤◌, cond, eqb, ltb, List, length, get_or, sym, refl, ap, ◌∙◌, subst, ⊎_elim, arith}
+use Rattle.std.proofs.Common.{◌≡◌, ℕ, zero, suc, ◌+◌, ◌-◌, ◌<◌, ◌≤◌, cond, eqb, ltb, List, length, sym, refl, ap, ◌∙◌, subst, ⊎_elim, arith}
 use Rattle.std.proofs.lemmas.Bool.{cases_lt, cond-true, cond-false, cond_both, eq-eqb, ne_eqb, lt-ltb, le-ltb, ltb-false}
 use Rattle.diagram.specs.declared.BitNode.{BitNode}
 use Rattle.node.specs.Forms.{Well}
-use Rattle.node.specs.Bits.{Comes, Ordered, behind, bit_form, blank, digit, follow, followed, picked}
+use Rattle.node.specs.Bits.{Comes, Ordered, behind, bit_form, digit, follow, followed, picked}
 
 pub linked_of : (ds : List ℕ) (rs : List BitNode) (start : ℕ) → Well bit_form ds rs start → Ordered rs
 linked_of ds rs start well i h = (well.3 i h).1

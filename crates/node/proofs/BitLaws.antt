@@ -1,7 +1,7 @@
 -- A table of bits that keeps the rules keeps the laws of a rule book.
-use Rattle.std.proofs.Common.{◌≡◌, ℕ, zero, suc, ◌+◌, ◌-◌, ◌<◌, ◌≤◌, Bool, true, false, cond, ◌&&◌, ◌||◌, eqb, ltb, leb, ◌⊎◌, List, [], ◌∷◌, length, get_or, take, is_some, Some, None, Option, sym, refl, ap, ◌∙◌, subst, ⊎_elim, arith, take_all}
+use Rattle.std.proofs.Common.{◌≡◌, ℕ, suc, ◌+◌, ◌-◌, ◌<◌, ◌≤◌, true, ◌&&◌, eqb, ltb, leb, List, [], ◌∷◌, length, get_or, is_some, Some, None, Option, sym, refl, ap, ◌∙◌, subst, ⊎_elim, arith, take_all}
 use Rattle.std.proofs.lemmas.List.{get_or_past}
-use Rattle.std.proofs.lemmas.Bool.{and_from, and_parts, cases_eq, cases_lt, cond-true, cond-false, cond_both, eq-eqb, ne_eqb, eqb-true, eqb-false, false≢true, le-leb, leb-true, lt-ltb, ltb-true, ltb-false, or_cases, or_left, or_right}
+use Rattle.std.proofs.lemmas.Bool.{and_from, and_parts, cases_eq, cases_lt, cond-true, cond-false, cond_both, eq-eqb, ne_eqb, eqb-false, false≢true, le-leb, leb-true, lt-ltb, ltb-true, or_cases, or_left, or_right}
 use Rattle.book.specs.Books.{BookLaws, FullSet, walk_of, walk_from}
 use Rattle.diagram.specs.declared.BitNode.{BitNode}
 use Rattle.node.specs.Forms.{Well, place_of_link}
@@ -193,7 +193,7 @@ module _ (ds : List ℕ) (rs : List BitNode) (start : ℕ) (well : Well bit_form
   pub bit_laws : BookLaws (bit_book ds rs start) (λ xs. Reaches rs (bit_of ds xs) start)
   bit_laws = record {
     some_feature = well.0.0;
-    features_at_most = well.0.1;
+    few_features = well.0.1;
     some_value = λ i h. (well.1 i h).0;
     few_values = λ i h. (well.1 i h).1;
     some_place = omega arith;

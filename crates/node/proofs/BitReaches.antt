@@ -1,9 +1,9 @@
 -- What the bits lead to is what a walk passes.
-use Rattle.std.proofs.Common.{◌≡◌, ℕ, zero, suc, ◌+◌, ◌-◌, ◌<◌, ◌≤◌, eqb, ltb, List, [], ◌∷◌, length, get_or, take, sym, refl, ap, ◌∙◌, subst, ⊎_elim, arith}
+use Rattle.std.proofs.Common.{◌≡◌, ℕ, zero, suc, ◌+◌, ◌-◌, ◌<◌, ◌≤◌, ltb, List, [], ◌∷◌, length, get_or, sym, ap, ◌∙◌, subst, ⊎_elim, arith}
 use Rattle.std.proofs.lemmas.Bool.{cases_eq, cases_lt, cond-true, cond-false, lt-ltb, le-ltb}
 use Rattle.diagram.specs.declared.BitNode.{BitNode}
 use Rattle.node.specs.Forms.{Inside}
-use Rattle.node.specs.Bits.{Comes, Ordered, Reaches, done, raised, lowered, base_of, behind, bit_of, digit, follow, followed, picked, width_of, widths}
+use Rattle.node.specs.Bits.{Comes, Ordered, Reaches, done, raised, lowered, base_of, behind, bit_of, digit, followed, width_of}
 use Rattle.node.proofs.BitFollows.{followed_leaf, followed_behind, followed_on, onward, onward_comes, picked_high, picked_low}
 
 -- The bits of feature f are the digits of its value.

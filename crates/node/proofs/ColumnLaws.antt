@@ -1,10 +1,10 @@
 -- A table of columns that passed its check keeps the laws of a rule book.
-use Rattle.std.proofs.Common.{◌≡◌, ℕ, ◌+◌, ◌-◌, ◌<◌, ◌≤◌, Bool, true, false, cond, eqb, ltb, List, [], ◌∷◌, length, get_or, is_some, Some, None, Option, sym, refl, ap, ◌∙◌, subst, ⊎_elim, arith}
+use Rattle.std.proofs.Common.{◌≡◌, ℕ, ◌+◌, ◌-◌, ◌<◌, ◌≤◌, true, eqb, ltb, List, [], ◌∷◌, length, get_or, is_some, Some, None, Option, sym, refl, ap, ◌∙◌, subst, ⊎_elim, arith}
 use Rattle.std.proofs.lemmas.List.{get_or_past}
-use Rattle.std.proofs.lemmas.Bool.{cases_eq, cases_lt, cond-false, cond_both, eqb-true, ltb-true, ltb-false, false≢true}
+use Rattle.std.proofs.lemmas.Bool.{cases_eq, cases_lt, cond_both, eqb-true, ltb-true, ltb-false, false≢true}
 use Rattle.book.specs.Books.{BookLaws, FullSet, walk_of, walk_from}
 use Rattle.diagram.specs.declared.ColumnNode.{ColumnNode}
-use Rattle.node.specs.Forms.{Inside, Well, place_of_link}
+use Rattle.node.specs.Forms.{Inside, Well}
 use Rattle.node.specs.Columns.{Reads, behind, chain, column_book, column_form, column_step}
 use Rattle.node.proofs.ColumnLinks.{Linked, linked_of, at_link}
 use Rattle.node.proofs.ColumnReading.{Rest, Stands, reads_inside, chain_found, chain_stands, reads_walks, walks_reads}
@@ -82,7 +82,7 @@ module _ (ds : List ℕ) (rs : List ColumnNode) (start : ℕ) (well : Well colum
   pub column_laws : BookLaws (column_book ds rs start) (Reads rs start)
   column_laws = record {
     some_feature = well.0.0;
-    features_at_most = well.0.1;
+    few_features = well.0.1;
     some_value = λ i h. (well.1 i h).0;
     few_values = λ i h. (well.1 i h).1;
     some_place = omega arith;

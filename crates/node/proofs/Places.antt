@@ -1,5 +1,5 @@
 -- The place that a link is.
-use Rattle.std.proofs.Common.{◌≡◌, ℕ, ◌≤◌, eqb, Some, None, Option, sym, refl, ◌∙◌, ⊎_elim, arith}
+use Rattle.std.proofs.Common.{◌≡◌, ℕ, ◌≤◌, eqb, Some, None, Option, ⊎_elim, arith}
 use Rattle.std.proofs.lemmas.Bool.{cases_eq, cond-true, cond-false, eq-eqb, ne_eqb}
 use Rattle.node.specs.Forms.{place_of_link}
 
