@@ -5,16 +5,16 @@ use Rattle.fault.specs.Questions.{Accepts}
 use Rattle.diagram_books.proofs.Asked.{stopped, sizes_early, sizes_late}
 use Rattle.diagram_books.proofs.asking.ask_sizes.Goals as goal
 
-pub returns-in-err-ask-features : goal.returns-in-err-ask-features
-returns-in-err-ask-features c =
+pub returns-in_err-ask-features : goal.returns-in_err-ask-features
+returns-in_err-ask-features c =
     let p = err_from_is_err_and c.from-residual.result c.from-residual.ensures.1 in
-    rw (p.1, p.2) (sizes_early c.args.source c.args.counts.now c.args.records _ c.in-err-ask-features.ensures)
+    rw (p.1, p.2) (sizes_early c.args.source c.args.counts.now c.args.records _ c.in_err-ask-features.ensures)
 
 pub returns-then-records-gt2046 : goal.returns-then-records-gt2046
 returns-then-records-gt2046 c =
-    sizes_late c.args.source c.args.counts.now c.args.records _ c.in-ok-ask-features.ensures
+    sizes_late c.args.source c.args.counts.now c.args.records _ c.in_ok-ask-features.ensures
     (stopped _ Accepts 2 0 c.line.result _ (λ h. let over = c.if-records-gt2046.true in omega arith) c.line.ensures)
 
 pub returns : goal.returns
 returns c =
-    sizes_late c.args.source c.args.counts.now c.args.records _ c.in-ok-ask-features.ensures (inl (c.if-records-gt2046.false, refl))
+    sizes_late c.args.source c.args.counts.now c.args.records _ c.in_ok-ask-features.ensures (inl (c.if-records-gt2046.false, refl))
