@@ -1,5 +1,5 @@
 -- How the questions of a table are answered.
-use Rattle.std.proofs.Common.{◌≡◌, ℕ, ◌+◌, ◌<◌, ◌≤◌, ◌⊎◌, List, length, get_or, Some, None, Option, sym, refl, ap, ◌∙◌, inl, inr, arith}
+use Rattle.std.proofs.Common.{◌≡◌, ℕ, ◌<◌, ◌≤◌, List, length, get_or, Some, None, Option, refl, ap, inl, inr}
 use Rattle.fault.specs.Told.{Told, table_fault}
 use Rattle.fault.specs.Questions.{Chain, Asks, AsksEach, Accepts}
 use Rattle.fault.proofs.Chains.{Asks_on, Asks_pass, each_on, each_all, each_stop, each_pass, refused}

@@ -3,7 +3,7 @@ use Rattle.book.specs.Books.{BookLaws}
 use Rattle.node.specs.Forms.{Well}
 use Rattle.node.specs.Columns.{Reads, column_book, column_form}
 use Rattle.node.proofs.ColumnLaws.{column_laws}
-use Rattle.diagram_books.specs.declared.columns.diagram.ColumnDiagram.{ColumnDiagram}
+use Rattle.diagram_books.specs.declared.columns.rule_book.ColumnDiagram.{ColumnDiagram}
 
 pub well_of : (b : ColumnDiagram) → Well column_form b.counts.now b.records.now b.start
 well_of b = (

@@ -1,11 +1,10 @@
 -- What a rule book's table keeps, one small fact each, as the prover wants the invariant of a type. All of them together
 -- are `Well`, that every question was answered by yes.
 use Rattle.std.specs.Prelude.{◌≡◌, ℕ, ◌+◌, ◌<◌, ◌≤◌, List, length, slice_index, slice_index_or}
-use Rattle.diagram.specs.declared.BitNode.{BitNode}
 use Rattle.diagram.specs.declared.ColumnNode.{ColumnNode}
-use Rattle.node.specs.Forms.{Form, Inside, FewValues, Well}
-use Rattle.node.specs.Bits.{Comes, bit_form, base_of}
-use Rattle.node.specs.Columns.{behind, column_form}
+use Rattle.node.specs.Forms.{Form, Inside, FewValues}
+use Rattle.node.specs.Bits.{base_of}
+use Rattle.node.specs.Columns.{behind}
 
 -- P holds of every record
 abbrev pub Every : {N : Type 0} → Form N → List N → (N → Type 0) → Type 0

@@ -69,11 +69,11 @@ fn ask_record<N: Node>(
     i: usize,
     source: Source,
 ) -> Result<(), Fault>
-    requires known { limit ≡ tests counts.now }
+    requires known { limit ≡ N.tests counts.now }
     requires few_features { length counts.now ≤ 24 }
     requires few_records { length records.now ≤ 2046 }
     requires within { i < length records.now }
-    ensures { AsksRecord source form counts.now records.now i Accepts (refusal result) }
+    ensures { AsksRecord source N.form counts.now records.now i Accepts (refusal result) }
 {
     let record = records[i];
     if !record.exists(counts, limit) {
@@ -94,10 +94,10 @@ fn ask_records<N: Node>(
     records: &[N],
     source: Source,
 ) -> Result<(), Fault>
-    requires known { limit ≡ tests counts.now }
+    requires known { limit ≡ N.tests counts.now }
     requires few_features { length counts.now ≤ 24 }
     requires few_records { length records.now ≤ 2046 }
-    ensures { AsksRecords source form counts.now records.now Accepts (refusal result) }
+    ensures { AsksRecords source N.form counts.now records.now Accepts (refusal result) }
 {
     for i in 0..records.len() {
         ask_record(counts, limit, records, i, source)?;
@@ -113,10 +113,10 @@ pub(crate) fn ask_body<N: Node>(
     start: u32,
     source: Source,
 ) -> Result<(), Fault>
-    requires known { limit ≡ tests counts.now }
+    requires known { limit ≡ N.tests counts.now }
     requires few_features { length counts.now ≤ 24 }
     requires few_records { length records.now ≤ 2046 }
-    ensures { AsksBody source form counts.now records.now start Accepts (refusal result) }
+    ensures { AsksBody source N.form counts.now records.now start Accepts (refusal result) }
 {
     ask_records(counts, limit, records, source)?;
     if !N::starts(records, start) {

@@ -3,9 +3,9 @@ use crate::source::Source;
 use diagram::BitNode;
 
 mod check;
-pub mod diagram;
 mod follow;
 mod questions;
+pub mod rule_book;
 pub mod steps;
 pub mod widths;
 

@@ -3,8 +3,8 @@ use crate::source::Source;
 use diagram::ColumnNode;
 
 mod check;
-pub mod diagram;
 mod questions;
+pub mod rule_book;
 pub mod steps;
 
 // A column diagram as it is handed over, unchecked: how many values each feature has, the records, and the start link.

@@ -3,7 +3,7 @@ use crate::tables::{BITS, COUNTS, bit};
 use book::{RuleBook, is_full, is_permitted, walk};
 use diagram::BitNode;
 use diagram_books::bits::BitTable;
-use diagram_books::bits::diagram::BitDiagram;
+use diagram_books::bits::rule_book::BitDiagram;
 use diagram_books::source::Source;
 
 fn book<'a>(counts: &'a [u32], records: &'a [BitNode], start: u32) -> BitDiagram<'a> {

@@ -3,7 +3,7 @@ use crate::tables::{COUNTS, column};
 use book::{RuleBook, is_permitted, walk};
 use diagram::ColumnNode;
 use diagram_books::columns::ColumnTable;
-use diagram_books::columns::diagram::ColumnDiagram;
+use diagram_books::columns::rule_book::ColumnDiagram;
 use diagram_books::source::Source;
 
 fn book<'a>(counts: &'a [u32], records: &'a [ColumnNode], start: u32) -> ColumnDiagram<'a> {

@@ -8,7 +8,7 @@ ghost use Rattle.diagram_books.specs.Tables.{table, accepted};
 
 use crate::asking::{ask_body, ask_sizes};
 use crate::bits::BitTable;
-use crate::bits::diagram::BitDiagram;
+use crate::bits::rule_book::BitDiagram;
 use crate::bits::widths::bit_bases;
 use crate::checked::Checked;
 use diagram::BitNode;

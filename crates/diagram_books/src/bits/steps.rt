@@ -2,8 +2,8 @@
 ghost use Rattle.node.specs.Bits.{Reaches, bit_book, bit_of};
 ghost use Rattle.diagram_books.specs.BitBooks.{laws_of};
 
-use crate::bits::diagram::BitDiagram;
 use crate::bits::follow::{follow_bits, may_stand};
+use crate::bits::rule_book::BitDiagram;
 use crate::links::{place_of, value_count};
 use book::RuleBook;
 

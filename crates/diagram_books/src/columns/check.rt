@@ -8,7 +8,7 @@ ghost use Rattle.diagram_books.specs.Tables.{table, accepted};
 use crate::asking::{ask_body, ask_sizes};
 use crate::checked::Checked;
 use crate::columns::ColumnTable;
-use crate::columns::diagram::ColumnDiagram;
+use crate::columns::rule_book::ColumnDiagram;
 use diagram::ColumnNode;
 use fault::Fault;
 

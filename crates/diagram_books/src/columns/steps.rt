@@ -2,7 +2,7 @@
 ghost use Rattle.node.specs.Columns.{Reads, column_book};
 ghost use Rattle.diagram_books.specs.ColumnBooks.{laws_of};
 
-use crate::columns::diagram::ColumnDiagram;
+use crate::columns::rule_book::ColumnDiagram;
 use crate::links::{place_of, value_count};
 use book::RuleBook;
 

@@ -5,17 +5,17 @@ use Rattle.fault.specs.Questions.{Accepts}
 use Rattle.diagram_books.proofs.Asked.{stopped, body_early, body_late}
 use Rattle.diagram_books.proofs.asking.ask_body.Goals as goal
 
-pub returns-in_err-ask-records : goal.returns-in_err-ask-records
-returns-in_err-ask-records g c =
-    let p = err_from_is_err_and c.from-residual.result c.from-residual.ensures.1 in
-    rw (p.1, p.2) (body_early c.args.source c.args.counts.now g.N.Node.form c.args.records.now c.args.start _ c.in_err-ask-records.ensures)
+pub returns-in_err-ask_records : goal.returns-in_err-ask_records
+returns-in_err-ask_records g c =
+    let p = err_from_is_err_and c.from_residual.result c.from_residual.ensures.1 in
+    rw (p.1, p.2) (body_early c.args.source c.args.counts.now g.N.Node.form c.args.records.now c.args.start _ c.in_err-ask_records.ensures)
 
 pub returns-then-not-starts : goal.returns-then-not-starts
 returns-then-not-starts g c =
-    body_late c.args.source c.args.counts.now g.N.Node.form c.args.records.now c.args.start _ c.in_ok-ask-records.ensures
+    body_late c.args.source c.args.counts.now g.N.Node.form c.args.records.now c.args.start _ c.in_ok-ask_records.ensures
     (stopped _ Accepts 5 0 c.line.result _ (λ h. both_ways c.starts.result c.if-not-starts.true (c.starts.ensures.1 h)) c.line.ensures)
 
 pub returns : goal.returns
 returns g c =
-    body_late c.args.source c.args.counts.now g.N.Node.form c.args.records.now c.args.start _ c.in_ok-ask-records.ensures
+    body_late c.args.source c.args.counts.now g.N.Node.form c.args.records.now c.args.start _ c.in_ok-ask_records.ensures
     (inl (c.starts.ensures.0 c.if-not-starts.false, refl))

@@ -1,6 +1,5 @@
 use Rattle.std.proofs.Common.{◌≡◌, ◌≤◌, length, sym, ◌∙◌, arith}
 use Rattle.std.proofs.lemmas.Bool.{eqb-false}
-use Rattle.node.specs.Forms.{FewFeatures, FewValues}
 use Rattle.diagram_books.proofs.Asked.{features_all, features_stop}
 use Rattle.diagram_books.proofs.asking.ask_features.Goals as goal
 use Rattle.diagram_books.proofs.asking.ask_features.Goals.{then-count-eq0-via-then-count-eq0, then-count-eq0-via-else-count-eq0+then-count-gt16}
@@ -21,5 +20,5 @@ returns-then-count-eq0 c =
 pub returns : goal.returns
 returns c =
     let past = c.loop-i-test.false in
-    let some : length c.args.counts.now ≡ 0 → ⊥ = eqb-false _ 0 (sym c.is-empty.ensures ∙ c.if-is-empty.false) in
+    let some : length c.args.counts.now ≡ 0 → ⊥ = eqb-false _ 0 (sym c.is_empty.ensures ∙ c.if-is_empty.false) in
     features_all c.args.source c.args.counts.now (omega arith, c.if-counts-gt24.false) (λ k h. c.loop-i.invariant k (omega arith))

@@ -4,11 +4,11 @@ use Rattle.fault.specs.Questions.{Accepts}
 use Rattle.diagram_books.proofs.Asked.{records_all, records_stop}
 use Rattle.diagram_books.proofs.asking.ask_records.Goals as goal
 
-pub returns-in_err-ask-record : goal.returns-in_err-ask-record
-returns-in_err-ask-record g c =
-    let p = err_from_is_err_and c.from-residual.result c.from-residual.ensures.1 in
+pub returns-in_err-ask_record : goal.returns-in_err-ask_record
+returns-in_err-ask_record g c =
+    let p = err_from_is_err_and c.from_residual.result c.from_residual.ensures.1 in
     rw (p.1, p.2)
-    (records_stop c.args.source c.args.counts.now g.N.Node.form c.args.records.now c.loop-i.i _ c.loop-i-test.true c.loop-i.invariant c.in_err-ask-record.ensures)
+    (records_stop c.args.source c.args.counts.now g.N.Node.form c.args.records.now c.loop-i.i _ c.loop-i-test.true c.loop-i.invariant c.in_err-ask_record.ensures)
 
 pub returns : goal.returns
 returns g c =

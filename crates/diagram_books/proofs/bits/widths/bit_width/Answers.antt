@@ -13,7 +13,7 @@ returns-in-5-to-8 c =
     let e : 3 ≡ width_of c.args.values = search rules in
     record { number = e; fewest = λ some few. subst (λ (k : ℕ). Fewest c.args.values k) (sym e) (fewest c.args.values some few) }
 
-pub returns-in-default : goal.returns-in-default
-returns-in-default c =
+pub returns-in_default : goal.returns-in_default
+returns-in_default c =
     let e : 4 ≡ width_of c.args.values = search rules in
     record { number = e; fewest = λ some few. subst (λ (k : ℕ). Fewest c.args.values k) (sym e) (fewest c.args.values some few) }

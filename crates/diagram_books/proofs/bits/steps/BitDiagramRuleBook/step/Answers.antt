@@ -1,4 +1,4 @@
-use Rattle.std.proofs.Common.{◌≡◌, ◌+◌, ◌<◌, ◌≤◌, length, get_or, sym, ap, ◌∙◌, arith}
+use Rattle.std.proofs.Common.{◌+◌, ◌<◌, length, get_or, sym, ap, ◌∙◌, arith}
 use Rattle.node.specs.Forms.{place_of_link}
 use Rattle.node.proofs.BitFollows.{linked_of}
 use Rattle.node.proofs.BitLaws.{opens_some, step_by}
@@ -15,8 +15,8 @@ returns-then-feature-self c =
       | then-feature-self-via-else-feature-self+then-value-self w ↦ sym (laws.no_value c.args.feature c.args.place c.args.value w.if-value-self.true)
     ]
 
-pub follow-bits-requires : goal.follow-bits-requires
-follow-bits-requires c =
+pub follow_bits-requires : goal.follow_bits-requires
+follow_bits-requires c =
     let b = c.args.self.now in
     let f = c.args.feature in
     let within : f < length b.counts.now = c.if-feature-self.false in
@@ -26,7 +26,7 @@ follow-bits-requires c =
     let to = b.based (f + 1) (omega arith) in
     record {
       linked = linked_of b.counts.now b.records.now b.start (well_of b);
-      stands = (opens_some b.records.now _ c.args.place (sym c.may-stand.ensures ∙ c.if-not-may-stand.false)).1;
+      stands = (opens_some b.records.now _ c.args.place (sym c.may_stand.ensures ∙ c.if-not-may_stand.false)).1;
       order = omega arith;
       few = omega arith;
     }
@@ -36,6 +36,6 @@ returns c =
     let b = c.args.self.now in
     let f = c.args.feature in
     let within : f < length b.counts.now = c.if-feature-self.false in
-    c.place-of.ensures
-    ∙ ap place_of_link c.follow-bits.ensures
-    ∙ step_by b.counts.now b.records.now b.start (well_of b) f c.args.place c.args.value _ _ within c.if-value-self.false (b.based f (omega arith)) (b.based (f + 1) (omega arith)) (sym c.may-stand.ensures ∙ c.if-not-may-stand.false)
+    c.place_of.ensures
+    ∙ ap place_of_link c.follow_bits.ensures
+    ∙ step_by b.counts.now b.records.now b.start (well_of b) f c.args.place c.args.value _ _ within c.if-value-self.false (b.based f (omega arith)) (b.based (f + 1) (omega arith)) (sym c.may_stand.ensures ∙ c.if-not-may_stand.false)

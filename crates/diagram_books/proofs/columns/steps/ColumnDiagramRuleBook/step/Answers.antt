@@ -1,8 +1,7 @@
-use Rattle.std.proofs.Common.{◌≡◌, ℕ, ◌<◌, ◌≤◌, get_or, sym, ap, ◌∙◌, arith}
+use Rattle.std.proofs.Common.{ℕ, ◌<◌, ◌≤◌, get_or, sym, ap, ◌∙◌, arith}
 use Rattle.node.specs.Columns.{behind, chain}
 use Rattle.node.specs.Forms.{Inside}
-use Rattle.diagram.specs.declared.ColumnNode.{ColumnNode}
-use Rattle.diagram_books.specs.declared.columns.diagram.ColumnDiagram.{ColumnDiagram}
+use Rattle.diagram_books.specs.declared.columns.rule_book.ColumnDiagram.{ColumnDiagram}
 use Rattle.diagram_books.specs.ColumnBooks.{well_of}
 use Rattle.node.proofs.ColumnLinks.{Linked, linked_of, at_link, chain_again, chain_here, chain_none, fewer_left, step_chain}
 use Rattle.diagram_books.proofs.columns.steps.ColumnDiagramRuleBook.step.Goals as goal
