@@ -11,7 +11,7 @@ use Rattle.diagram.specs.declared.BitNode.{BitNode}
 use Rattle.diagram.specs.declared.ColumnNode.{ColumnNode}
 use Rattle.node.specs.Forms.{Well}
 use Rattle.node.specs.Bits.{Reaches, bit_book, bit_form, bit_of}
-use Rattle.node.specs.Columns.{Reads, column_book, column_form}
+use Rattle.node.specs.Columns.{Reads, column_form}
 use Rattle.examples.specs.declared.product.Example.{Example}
 
 abbrev bit : ℕ → ℕ → ℕ → BitNode

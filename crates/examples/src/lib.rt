@@ -1,4 +1,6 @@
 // Worked examples that are proved: one statement over the definitions, on the contract of one call.
+#![tactic(auto)]
+
 ghost use Rattle.examples.specs.Starred.{Starred};
 
 use diagram::{BitNode, ColumnNode};

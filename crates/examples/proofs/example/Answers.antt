@@ -1,6 +1,6 @@
 use Rattle.std.proofs.Common.{sym, refl, arith}
 use Rattle.tariff.specs.MoneyLaws.{same_money}
-use Rattle.tariff.specs.SpecialLaws.{sum_is_beyond, sum_is_parts}
+use Rattle.tariff.proofs.SpecialSums.{sum_is_beyond, sum_is_parts}
 use Rattle.examples.specs.Starred.{amount}
 use Rattle.examples.proofs.Shown.{bit_well, column_well, column_permits, bit_permits}
 use Rattle.examples.proofs.example.Goals as goal
