@@ -1,4 +1,4 @@
-use Rattle.std.proofs.Common.{◌≡◌, ℕ, ◌-◌, List, take, refl, ap, ◌∙◌, arith}
+use Rattle.std.proofs.Common.{◌≡◌, ℕ, ◌-◌, List, take, ap, ◌∙◌, arith}
 use native.Mathlib.Nat.{sub-zero}
 use Rattle.places.proofs.Found.{bit_asked, column_asked, places_at}
 use Rattle.places.proofs.judge.judge.Goals as goal
@@ -12,11 +12,11 @@ returns-in-Bit c =
     let k = c.args.contents.now in
     let fits = c.requires.few_records in
     let room = c.told-bits in
-    let counts = whole k.features c.value-counts-counts.result ∙ ap (take k.features) c.value-counts-counts.ensures in
+    let counts = whole k.features c.value_counts-counts.result ∙ ap (take k.features) c.value_counts-counts.ensures in
     let records = whole k.records c.args.bits.now in
     record {
-      asked = bit_asked k c.args.features.now c.args.bits.now c.args.columns.now (take (k.features - 0) c.value-counts-counts.result) _ (take (k.records - 0) c.args.bits.now) c.in-Bit.is counts records c.bit-places.ensures.asked;
-      places = places_at c.bit-places.result (take (k.records - 0) c.args.bits.now) c.args.bits.now k.records (omega arith) records c.bit-places.ensures.places;
+      asked = bit_asked k c.args.features.now c.args.bits.now c.args.columns.now (take (k.features - 0) c.value_counts-counts.result) _ (take (k.records - 0) c.args.bits.now) c.in-Bit.is counts records c.bit_places.ensures.asked;
+      places = places_at c.bit_places.result (take (k.records - 0) c.args.bits.now) c.args.bits.now k.records (omega arith) records c.bit_places.ensures.places;
     }
 
 pub returns-in-Column : goal.returns-in-Column
@@ -24,9 +24,9 @@ returns-in-Column c =
     let k = c.args.contents.now in
     let fits = c.requires.few_records in
     let room = c.told-columns in
-    let counts = whole k.features c.value-counts-counts.result ∙ ap (take k.features) c.value-counts-counts.ensures in
+    let counts = whole k.features c.value_counts-counts.result ∙ ap (take k.features) c.value_counts-counts.ensures in
     let records = whole k.records c.args.columns.now in
     record {
-      asked = column_asked k c.args.features.now c.args.bits.now c.args.columns.now (take (k.features - 0) c.value-counts-counts.result) _ (take (k.records - 0) c.args.columns.now) c.in-Column.is counts records c.column-places.ensures.asked;
-      places = places_at c.column-places.result (take (k.records - 0) c.args.columns.now) c.args.columns.now k.records (omega arith) records c.column-places.ensures.places;
+      asked = column_asked k c.args.features.now c.args.bits.now c.args.columns.now (take (k.features - 0) c.value_counts-counts.result) _ (take (k.records - 0) c.args.columns.now) c.in-Column.is counts records c.column_places.ensures.asked;
+      places = places_at c.column_places.result (take (k.records - 0) c.args.columns.now) c.args.columns.now k.records (omega arith) records c.column_places.ensures.places;
     }

@@ -1,5 +1,4 @@
 use Rattle.std.proofs.Common.{◌≡◌, ℕ, ◌<◌, length, get_or}
-use Rattle.catalogue.specs.declared.entries.Feature.{Feature}
 use Rattle.places.proofs.judge.value_counts.Given as goal
 
 abbrev pub invariant-loop-i : goal.invariant-loop-i
