@@ -1,6 +1,6 @@
+// Worked catalogues, and tables of broken ones with the question and the line that refuse each.
 #![tactic(auto)]
 
-// Worked catalogues, and tables of broken ones with the question and the line that refuse each.
 #[cfg(test)]
 mod accepted;
 #[cfg(test)]

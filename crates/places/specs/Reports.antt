@@ -1,4 +1,4 @@
--- What the program prints of a text, but for the last byte 10.
+-- What a report prints of a text.
 use Rattle.std.specs.Prelude.{ℕ, List, ◌++◌, Ok, Err, codes, decimal, Result}
 use Rattle.fault.specs.declared.Fault.{Fault}
 use Rattle.fault.specs.Told.{fault_line}

@@ -1,4 +1,4 @@
--- What the program finds in a text: with tables for 24 features, 64 records, 384 prices and 64 calls.
+-- What is found in a text: with tables for 24 features, 64 records, 384 prices and 64 calls.
 use Rattle.std.specs.Prelude.{◌≡◌, ℕ, ◌+◌, ◌<◌, ◌≤◌, ◌⊎◌, List, map, length, take, replicate, IfOk, Some, Err, Result}
 use Rattle.fault.specs.declared.Fault.{Fault}
 use Rattle.fault.specs.Told.{file_fault}
@@ -17,7 +17,7 @@ use Rattle.catalogue.specs.declared.entries.Kind.TheVariants.{Bit, Column}
 use Rattle.catalogue.specs.Content.{Content, RecordsOf, Tables, lent}
 use Rattle.catalogue.specs.Whole.{Accepted, Denied}
 
--- the program's tables, before anything is read
+-- the tables, before anything is read
 abbrev pub blank : Tables
 blank =
     lent (replicate 24 (record { place = 0; length = 0; values = 0 })) (replicate 64 (record { bit = 0; low = 0; high = 0 }))

@@ -1,4 +1,4 @@
-// What the program prints.
+// What is printed of a text's places.
 ghost use Rattle.std.specs.Prelude.{Some};
 ghost use Rattle.places.specs.Reports.{report_text};
 

@@ -1,4 +1,4 @@
-// Reads a text with the program's own tables, and checks the diagram that it holds.
+// Reads a text with tables of the program's sizes, and checks the diagram that it holds.
 ghost use Rattle.places.specs.Surveys.{Surveyed};
 
 use crate::judge::judge;
@@ -56,7 +56,7 @@ mod tests {
     use std::process::Abort;
     use std::test::Fail;
 
-    // What the program prints of a text.
+    // What a report prints of a text.
     fn hold(rt: &impl Abort, heap: Global, text: &[u8], printed: &str) -> Result<(), Fail> {
         let report = Report {
             found: survey(text),

@@ -21,7 +21,7 @@ pub trait Tariff {
     // How many numbers a written price has: 1 or 2.
     const NUMBERS: usize;
 
-    // The same number, as contracts speak of it.
+    // The number that `number_count` answers, as contracts speak of it.
     ghost numbers: { ℕ };
 
     // The neutral cost, the joining and the order, as contracts speak of them.

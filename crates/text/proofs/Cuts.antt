@@ -24,8 +24,8 @@ module _ (t : List ℕ) (p n : ℕ) (lt : n < length (take (length t - p) (drop 
       ∙ cut_at 10 left n lt is
       ∙ rw (same_front left n, append-nil (ended (take n left)), append_assoc (take n left) (10 ∷ []) (drop (p + (n + 1)) t)) (ap (λ l. take n left ++ 10 ∷ l) (ap (drop (n + 1)) (take_rest t p) ∙ drop-drop (n + 1) p t))
 
-  pub line-length : n + 1 ≡ length (text_of (take (n - 0) left ∷ []))
-  line-length = rw (same_front left n, append-nil (ended (take n left))) (omega (arith, length_push (take n left) 10, length-take-le n left (omega arith)))
+  pub line_length : n + 1 ≡ length (text_of (take (n - 0) left ∷ []))
+  line_length = rw (same_front left n, append-nil (ended (take n left))) (omega (arith, length_push (take n left) 10, length-take-le n left (omega arith)))
 
 -- a list that lacks b is not cut at b
 pub lacks_cut : (b : ℕ) (f more : List ℕ) → Lacks b (f ++ b ∷ more) → ⊥

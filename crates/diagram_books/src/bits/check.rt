@@ -33,8 +33,8 @@ fn judge(table: &BitTable<'_>) -> Result<[usize; 25], Fault>
 }
 
 impl<'a> BitTable<'a> {
-    // Asks the questions of a table in their order; the rule book that is answered holds the same table. One step a
-    // feature and a record.
+    // Asks the questions of a table in their order. The rule book that is answered holds the same table where it is
+    // accepted, and otherwise permits nothing. One step a feature and a record.
     pub fn check(self) -> Checked<BitDiagram<'a>>
         ensures asked { AsksTable self.entry.source bit_form self.entry.counts.now self.entry.records.now self.entry.start (refusal result.outcome) }
         ensures held { table result.book.counts.now result.book.records.now result.book.start ≡ accepted result.outcome (table self.entry.counts.now self.entry.records.now self.entry.start) }

@@ -1,7 +1,7 @@
 use Rattle.std.proofs.Common.{◌+◌, ◌-◌, length, take, drop, refl, ap, subst, arith}
 use Rattle.std.proofs.lemmas.List.{take_rest}
 use Rattle.text.specs.Fields.{Lacks}
-use Rattle.text.proofs.Cuts.{lacks_all, same_front, line_front, line-length}
+use Rattle.text.proofs.Cuts.{lacks_all, same_front, line_front, line_length}
 use Rattle.text.proofs.reader.Reader.line.Goals as goal
 
 pub returns-then-n-left : goal.returns-then-n-left
@@ -19,7 +19,7 @@ returns c =
       took = record {
         same = refl;
         front = line_front t p n (omega arith) (c.before-n.ensures.stops (omega arith));
-        at = ap (λ k. p + k) (line-length t p n (omega arith) (c.before-n.ensures.stops (omega arith)));
+        at = ap (λ k. p + k) (line_length t p n (omega arith) (c.before-n.ensures.stops (omega arith)));
         line = refl;
       };
       lacks = rw (same_front left n) c.before-n.ensures.lacks;
