@@ -1,6 +1,8 @@
 -- What is left of a line, and what a token is.
 use Rattle.std.specs.Prelude.{◌≡◌, ℕ, List, [], drop, Some, None, Option}
 use Rattle.std.specs.Borrow.{Bor}
+use Rattle.fault.specs.declared.Fault.{Fault}
+use Rattle.fault.specs.Told.{told, file_fault}
 use Rattle.text.specs.declared.line.Line.{Line}
 use Rattle.text.specs.declared.line.Token.{Token}
 use Rattle.text.specs.declared.line.Want.{Want}
@@ -13,6 +15,10 @@ fields_in (Some bytes) = fields bytes.now
 -- the fields of a line that are not taken yet
 abbrev pub left : Line → List (List ℕ)
 left l = fields_in l.rest
+
+-- f is the fault of the line l, that it is not of its form: question 15 says no
+abbrev pub IllFormed : Line → Fault → Type 0
+IllFormed l f = told f ≡ file_fault 15 l.number
 
 -- b is the line a after one field more, if there was one
 pub record Passed (a b : Line) : Type 0 where

@@ -3,7 +3,7 @@ ghost use Rattle.std.specs.Prelude.{◌≡◌, ℕ, List, [], ◌∷◌, map, le
 ghost use Rattle.std.specs.List.{AllByRecursion};
 ghost use Rattle.fault.specs.Told.{told, file_fault};
 ghost use Rattle.text.specs.Fields.{Small, IsName, fields};
-ghost use Rattle.text.specs.Tokens.{fields_in, left, Passed, Is, IsNot};
+ghost use Rattle.text.specs.Tokens.{fields_in, left, IllFormed, Passed, Is, IsNot};
 
 use crate::fields::{before, is_name, number_in};
 use fault::Fault;
@@ -46,6 +46,14 @@ fn cut<'a>(bytes: &'a [u8]) -> (&'a [u8], Option<&'a [u8]>)
 }
 
 impl<'a> Line<'a> {
+    // The fault of a line that is not of its form. Constant time.
+    pub fn ill_formed(&self) -> Fault
+        ensures { IllFormed self.now result }
+    {
+        let line = self.number;
+        Fault::IllFormedLine { line }
+    }
+
     // The next field, whatever it holds. One step a byte of it.
     fn field(&mut self) -> Result<&'a [u8], Fault>
         ensures moves { Passed self.old self.new }
