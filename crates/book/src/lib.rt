@@ -14,9 +14,6 @@ pub trait RuleBook {
     // Which full sets the book permits, by its own meaning and not by its walk.
     ghost permits: { Self → List ℕ → Type 0 };
 
-    // The sizes and ranges of the answers; a full set is permitted exactly when its walk never meets none.
-    ghost laws: { (b : Self) → BookLaws (book b) (permits b) };
-
     // How many features there are, 1 to 24.
     fn features(&self) -> usize
         ensures { result ≡ (book self.now).features };
@@ -37,6 +34,9 @@ pub trait RuleBook {
     // place or value do not exist.
     fn step(&self, feature: usize, place: usize, value: usize) -> Option<usize>
         ensures { result ≡ (book self.now).step feature place value };
+
+    // The sizes and ranges of the answers; a full set is permitted exactly when its walk never meets none.
+    ghost laws: { (b : Self) → BookLaws (book b) (permits b) };
 }
 
 // Walks a set from the start, one step a feature in order: where the walk ends, or none where it met none. One step of the

@@ -1,12 +1,25 @@
--- The rule book of a bit table keeps its laws.
+-- The index of a bit table, and that its rule book keeps the laws.
+use Rattle.std.specs.Prelude.{◌≡◌, ℕ, ◌+◌, ◌<◌, ◌≤◌, List, [], length, slice_index}
+use Rattle.std.proofs.Common.{lit<}
+use Rattle.std.proofs.Props.{props}
 use Rattle.book.specs.Books.{BookLaws}
-use Rattle.node.specs.Forms.{Well}
-use Rattle.node.specs.Bits.{Reaches, bit_book, bit_form, bit_of}
+use Rattle.diagram.specs.declared.BitNode.{BitNode}
+use Rattle.node.specs.Forms.{Well, book_of}
+use Rattle.node.specs.Bits.{Reaches, base_of, bit_form, bit_of, bit_step}
 use Rattle.node.proofs.BitLaws.{bit_laws}
-use Rattle.diagram_books.specs.declared.bits.rule_book.BitDiagram.{BitDiagram}
 
-pub well_of : (b : BitDiagram) → Well bit_form b.counts.now b.records.now b.start
-well_of b = (b.few, b.valued, b.short, (λ r h. (b.known r h, (b.lower r h, b.higher r h))), b.begun)
+-- the first bits of the features stand in a row, and behind them the number of all bits
+abbrev pub Based : List ℕ → List ℕ → Type 0
+Based ds bases = (f : ℕ) → f ≤ length ds → slice_index bases f ≡ base_of ds f
 
-pub laws_of : (b : BitDiagram) → BookLaws (bit_book b.counts.now b.records.now b.start) (λ xs. Reaches b.records.now (bit_of b.counts.now xs) b.start)
-laws_of b = bit_laws b.counts.now b.records.now b.start (well_of b)
+pub based_once : (ds bases : List ℕ) → IsProp (Based ds bases)
+based_once ds bases = hlevel props
+
+pub bit_well_once : (ds : List ℕ) (rs : List BitNode) (start : ℕ) → IsProp (Well bit_form ds rs start)
+bit_well_once ds rs start = hlevel props
+
+pub bit_false_starts : 0 < length {A = BitNode} [] + 2
+bit_false_starts = lit< tt
+
+pub bit_lawful : (ds : List ℕ) (rs : List BitNode) (start : ℕ) → Well bit_form ds rs start → BookLaws (book_of bit_step ds rs start) (λ xs. Reaches rs (bit_of ds xs) start)
+bit_lawful = bit_laws

@@ -1,21 +1,22 @@
--- The rule book of a column table keeps its laws.
+-- The rule book of a column table keeps the laws.
+use Rattle.std.specs.Prelude.{ℕ, ◌≤◌, List, [], ⊤}
+use Rattle.std.specs.Coded.{Unit-prop}
+use Rattle.std.proofs.Common.{arith}
+use Rattle.std.proofs.Props.{props}
 use Rattle.book.specs.Books.{BookLaws}
-use Rattle.node.specs.Forms.{Well}
-use Rattle.node.specs.Columns.{Reads, column_book, column_form}
+use Rattle.diagram.specs.declared.ColumnNode.{ColumnNode}
+use Rattle.node.specs.Forms.{Well, book_of}
+use Rattle.node.specs.Columns.{LeadsTo, Reads, column_form, column_step}
 use Rattle.node.proofs.ColumnLaws.{column_laws}
-use Rattle.diagram_books.specs.declared.columns.rule_book.ColumnDiagram.{ColumnDiagram}
 
-pub well_of : (b : ColumnDiagram) → Well column_form b.counts.now b.records.now b.start
-well_of b = (
-  b.few,
-  b.valued,
-  b.short,
-  (λ r h. (
-    b.known r h,
-    (((λ m. (b.leads r h m, b.moves r h m)), b.ends r h), λ m. ((b.falls r h m, b.stays r h m), b.rises r h m)),
-  )),
-  λ m. (b.enters m, b.first m),
-)
+pub no_index_once : (ds : List ℕ) (x : Unit {0}) → IsProp ⊤
+no_index_once ds x = Unit-prop
 
-pub laws_of : (b : ColumnDiagram) → BookLaws (column_book b.counts.now b.records.now b.start) (Reads b.records.now b.start)
-laws_of b = column_laws b.counts.now b.records.now b.start (well_of b)
+pub column_well_once : (ds : List ℕ) (rs : List ColumnNode) (start : ℕ) → IsProp (Well column_form ds rs start)
+column_well_once ds rs start = hlevel props
+
+pub column_false_starts : 1 ≤ 0 → LeadsTo [] 0 0
+column_false_starts some = absurd (omega arith)
+
+pub column_lawful : (ds : List ℕ) (rs : List ColumnNode) (start : ℕ) → Well column_form ds rs start → BookLaws (book_of column_step ds rs start) (Reads rs start)
+column_lawful = column_laws

@@ -1,5 +1,5 @@
 pub mod BitBooks
 pub mod Checks
 pub mod ColumnBooks
-pub mod Invariants
+pub mod Links
 pub mod Tables

@@ -1,19 +1,15 @@
 // The bit diagram: each record tests one bit of the values, which are numbered through all features.
-use crate::source::Source;
+use crate::rule_book::Diagram;
+use crate::table::Table;
 use diagram::BitNode;
 
-mod check;
 mod follow;
 mod questions;
-pub mod rule_book;
-pub mod steps;
 pub mod widths;
 
-// A bit diagram as it is handed over, unchecked: how many values each feature has, the records, and the start link.
-#[derive(Clone, Copy)]
-pub struct BitTable<'a> {
-    pub counts: &'a [u32],
-    pub records: &'a [BitNode],
-    pub start: u32,
-    pub source: Source,
-}
+// A bit diagram as it is handed over, unchecked.
+pub type BitTable<'a> = Table<'a, BitNode>;
+
+// The rule book of a bit table. Its index is the number of the first bit of each feature, with the number of all bits behind
+// the last.
+pub type BitDiagram<'a> = Diagram<'a, BitNode, [usize; 25]>;

@@ -1,17 +1,12 @@
 // The column diagram: for each column (feature) chains of records, each of which tests one value of the column.
-use crate::source::Source;
+use crate::rule_book::Diagram;
+use crate::table::Table;
 use diagram::ColumnNode;
 
-mod check;
 mod questions;
-pub mod rule_book;
-pub mod steps;
 
-// A column diagram as it is handed over, unchecked: how many values each feature has, the records, and the start link.
-#[derive(Clone, Copy)]
-pub struct ColumnTable<'a> {
-    pub counts: &'a [u32],
-    pub records: &'a [ColumnNode],
-    pub start: u32,
-    pub source: Source,
-}
+// A column diagram as it is handed over, unchecked.
+pub type ColumnTable<'a> = Table<'a, ColumnNode>;
+
+// The rule book of a column table. It needs no index.
+pub type ColumnDiagram<'a> = Diagram<'a, ColumnNode, ()>;

@@ -1,6 +1,6 @@
 -- The chain of low links in a table that keeps the rules.
 use Rattle.std.proofs.Common.{◌≡◌, ℕ, zero, suc, ◌+◌, ◌-◌, ◌<◌, ◌≤◌, cond, eqb, ltb, List, length, get_or, Some, None, Option, sym, refl, ap, ◌∙◌, ⊎_elim, arith}
-use Rattle.std.proofs.lemmas.Bool.{cases_eq, cond-true, cond-false, cond_both, eq-eqb, ne_eqb, eqb-false, lt-ltb, le-ltb}
+use Rattle.std.proofs.lemmas.Bool.{cases_eq, cond-true, cond-false, cond_both, eq-eqb, ne_eqb, eqb-true, eqb-false, lt-ltb, le-ltb, ltb-true, ltb-false}
 use Rattle.diagram.specs.declared.ColumnNode.{ColumnNode}
 use Rattle.node.specs.Forms.{Inside, Well}
 use Rattle.node.specs.Columns.{LeadsTo, behind, blank, chain, column_form, column_step}
@@ -106,3 +106,15 @@ module _ (ds : List ℕ) (rs : List ColumnNode) (well : Linked ds rs) where
       (cond-false (ltb p 2) _ _ (le-ltb p 2 h.0)
       ∙ cond-true (ltb (p - 2) (length rs)) _ _ (lt-ltb (p - 2) (length rs) (omega arith))
       ∙ cond-true (eqb (behind rs p).column f) _ _ (eq-eqb (behind rs p).column f here))
+
+-- A step from anywhere else is none.
+pub step_none : (ds : List ℕ) (rs : List ColumnNode) (f p v : ℕ) → (LeadsTo rs f p → ⊥) → None ≡ column_step ds rs f p v
+step_none ds rs f p v never =
+    cond_both (ltb p 2) _ _ (λ o. None ≡ o) (λ _. refl)
+    (λ a.
+    cond_both (ltb (p - 2) (length rs)) _ _ (λ o. None ≡ o)
+    (λ b.
+    let low = ltb-false p 2 a in
+    let high = ltb-true (p - 2) (length rs) b in
+    cond_both (eqb (behind rs p).column f) _ _ (λ o. None ≡ o) (λ e. absurd (never ((low, omega arith), eqb-true (behind rs p).column f e))) (λ _. refl))
+    (λ _. refl))

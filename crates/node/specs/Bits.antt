@@ -2,7 +2,7 @@
 use Rattle.std.specs.Prelude.{◌≡◌, ℕ, zero, suc, ◌+◌, ◌-◌, ◌/◌, ◌%◌, ◌^◌, ◌<◌, ◌≤◌, Bool, cond, ◌&&◌, ◌||◌, List, [], ◌∷◌, length, take, None, Option, ◌==◌, ◌≢◌, nat_le, nat_lt, slice_index, slice_index_or}
 use Rattle.book.specs.Books.{Book}
 use Rattle.diagram.specs.declared.BitNode.{BitNode}
-use Rattle.node.specs.Forms.{Form, Inside, place_of_link}
+use Rattle.node.specs.Forms.{Form, Inside, place_of_link, book_of}
 
 -- k is the fewest bits that tell d values apart
 pub record Fewest (d k : ℕ) : Type 0 where
@@ -90,10 +90,4 @@ bit_step ds rs f p v =
     cond (nat_lt f (length ds)) (cond (nat_lt v (slice_index ds f)) (cond (opens rs (base_of ds f) p) (place_of_link (follow rs (base_of ds f) (base_of ds f + width_of (slice_index ds f)) v p)) None) None) None
 
 abbrev pub bit_book : List ℕ → List BitNode → ℕ → Book
-bit_book ds rs start = record {
-  features = length ds;
-  values = λ i. slice_index ds i;
-  places = length rs + 2;
-  start = place_of_link start;
-  step = bit_step ds rs;
-}
+bit_book = book_of bit_step

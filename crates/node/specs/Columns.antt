@@ -2,7 +2,7 @@
 use Rattle.std.specs.Prelude.{◌≡◌, ℕ, zero, suc, ◌+◌, ◌-◌, ◌<◌, ◌≤◌, cond, List, [], ◌∷◌, length, Some, None, Option, ◌==◌, ◌≢◌, nat_lt, slice_index, slice_index_or}
 use Rattle.book.specs.Books.{Book}
 use Rattle.diagram.specs.declared.ColumnNode.{ColumnNode}
-use Rattle.node.specs.Forms.{Form, Inside, place_of_link}
+use Rattle.node.specs.Forms.{Form, Inside, book_of}
 
 abbrev pub blank : ColumnNode
 blank = record { column = 0; value = 0; high = 0; low = 0 }
@@ -52,10 +52,4 @@ column_step ds rs f p v =
     cond (nat_lt p 2) None (cond (nat_lt (p - 2) (length rs)) (cond ((behind rs p).column == f) (chain rs (slice_index ds f) p v) None) None)
 
 abbrev pub column_book : List ℕ → List ColumnNode → ℕ → Book
-column_book ds rs start = record {
-  features = length ds;
-  values = λ i. slice_index ds i;
-  places = length rs + 2;
-  start = place_of_link start;
-  step = column_step ds rs;
-}
+column_book = book_of column_step

@@ -3,6 +3,7 @@
 -- A table has the value count of each feature (ds), its records (rs) and a start link. A link is 0 for false, 1 for true,
 -- and r + 2 for record r, counted from 0.
 use Rattle.std.specs.Prelude.{ℕ, ◌+◌, ◌<◌, ◌≤◌, cond, List, length, Some, None, Option, ◌==◌, slice_index, slice_index_or}
+use Rattle.book.specs.Books.{Book}
 
 -- the link l leads to a record
 abbrev pub Inside : {N : Type 0} → List N → ℕ → Type 0
@@ -39,3 +40,13 @@ Well form ds rs start =
     × (length rs ≤ 2046)
     × ((r : ℕ) → r < length rs → form.exists ds (slice_index_or rs r form.blank) × form.linked ds rs (slice_index_or rs r form.blank))
     × form.starts rs start
+
+-- the rule book of a table of a form whose steps these are: from value counts, records, feature, place and value
+abbrev pub book_of : {N : Type 0} → (List ℕ → List N → ℕ → ℕ → ℕ → Option ℕ) → List ℕ → List N → ℕ → Book
+book_of step ds rs start = record {
+  features = length ds;
+  values = λ i. slice_index ds i;
+  places = length rs + 2;
+  start = place_of_link start;
+  step = step ds rs;
+}

@@ -1,15 +1,25 @@
 // The bits of one feature, from a place.
-ghost use Rattle.std.specs.Prelude.{◌≡◌, ◌+◌, ◌<◌, ◌≤◌, length};
+ghost use Rattle.std.specs.Prelude.{◌≡◌, ◌+◌, ◌≤◌, Decides};
 ghost use Rattle.node.specs.Bits.{Comes, Ordered, follow, opens};
 
+use crate::links::Link;
 use diagram::BitNode;
+
+// Whether a link leads to 0, to 1, or to a record whose bit is this one or a later one. Constant time.
+pub(crate) fn comes(records: &[BitNode], bit: usize, link: usize) -> bool
+    ensures { Decides result (Comes records.now bit link) }
+{
+    match Link::of(link) {
+        Link::False | Link::True => true,
+        Link::Record(r) => r < records.len() && bit <= records[r].bit as usize,
+    }
+}
 
 // Whether a walk may stand at the link before this bit: it is 1, or a record of no earlier bit. Constant time.
 pub(crate) fn may_stand(records: &[BitNode], bit: usize, link: usize) -> bool
-    requires { length records.now ≤ 2046 }
     ensures { result ≡ opens records.now bit link }
 {
-    link > 0 && (link < 2 || (link < records.len() + 2 && bit <= records[link - 2].bit as usize))
+    link > 0 && comes(records, bit, link)
 }
 
 // Where the bits from `base` to before `end` lead from the link: bit base + j of the value has weight 2^j. One step a bit.
@@ -27,14 +37,11 @@ pub(crate) fn follow_bits(
     ensures { result ≡ follow records.now base end value place }
 {
     let mut link = place;
-    loop {
-        if link < 2 {
-            break link;
-        }
-        let record = records[link - 2];
+    while let Link::Record(r) = Link::of(link) {
+        let record = records[r];
         let bit = record.bit as usize;
         if bit >= end {
-            break link;
+            break;
         }
         let high = (value >> (bit - base)) % 2 == 1;
         link = if high {
@@ -43,4 +50,5 @@ pub(crate) fn follow_bits(
             record.low as usize
         };
     }
+    link
 }

@@ -1,7 +1,7 @@
 // How many bits a feature has, and where they begin.
 ghost use Rattle.std.specs.Prelude.{◌≡◌, ◌≤◌, length};
 ghost use Rattle.node.specs.Bits.{Fewest, width_of};
-ghost use Rattle.diagram_books.specs.Invariants.{Based};
+ghost use Rattle.diagram_books.specs.BitBooks.{Based};
 
 // How many bits a feature of 1 to 16 values has: the fewest that tell them apart. Constant time.
 pub fn bit_width(values: u32) -> usize

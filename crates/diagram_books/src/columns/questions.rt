@@ -1,16 +1,20 @@
-// What is asked of a record of a column diagram.
-ghost use Rattle.std.specs.Prelude.{◌+◌, length, Decides};
-ghost use Rattle.node.specs.Columns.{column_form, LeadsTo, HighAllowed, LowAllowed};
+// What is asked of a record of a column diagram, and how a walk steps.
+ghost use Rattle.std.specs.Prelude.{◌+◌, ⊤, length, Decides};
+ghost use Rattle.node.specs.Columns.{Reads, column_form, column_step, LeadsTo, HighAllowed, LowAllowed};
+ghost use Rattle.diagram_books.specs.ColumnBooks.{column_well_once, column_false_starts, column_lawful, no_index_once};
 
-use crate::asking::Node;
+use crate::forms::Node;
+use crate::links::Link;
 use diagram::ColumnNode;
 
 // Whether a link leads to a record of the column. Constant time.
-fn leads_to(records: &[ColumnNode], column: usize, link: u32) -> bool
+fn leads_to(records: &[ColumnNode], column: usize, link: usize) -> bool
     ensures { Decides result (LeadsTo records.now column link) }
 {
-    let link = link as usize;
-    link >= 2 && link - 2 < records.len() && records[link - 2].column as usize == column
+    match Link::of(link) {
+        Link::False | Link::True => false,
+        Link::Record(r) => r < records.len() && records[r].column as usize == column,
+    }
 }
 
 // Whether high leads to a record of the next column, or to 1 in the last one. Constant time.
@@ -19,9 +23,9 @@ fn high_allowed(counts: &[u32], records: &[ColumnNode], node: &ColumnNode) -> bo
 {
     let next = node.column as usize + 1;
     if next < counts.len() {
-        leads_to(records, next, node.high)
+        leads_to(records, next, node.high as usize)
     } else {
-        node.high == 1
+        matches!(Link::of(node.high as usize), Link::True)
     }
 }
 
@@ -29,19 +33,38 @@ fn high_allowed(counts: &[u32], records: &[ColumnNode], node: &ColumnNode) -> bo
 fn low_allowed(records: &[ColumnNode], node: &ColumnNode) -> bool
     ensures { Decides result (LowAllowed records.now node.now) }
 {
-    node.low == 0
-        || (leads_to(records, node.column as usize, node.low)
-            && node.value < records[node.low as usize - 2].value)
+    let column = node.column as usize;
+    match Link::of(node.low as usize) {
+        Link::False => true,
+        Link::True => false,
+        Link::Record(r) => {
+            leads_to(records, column, node.low as usize) && node.value < records[r].value
+        }
+    }
 }
 
-impl Node for ColumnNode {
+impl Node<()> for ColumnNode {
     ghost form = { column_form };
 
-    ghost tests = { λ ds. length ds };
+    ghost indexed = { λ _ _. ⊤ };
 
-    fn exists(&self, counts: &[u32], limit: usize) -> bool {
+    ghost step = { column_step };
+
+    ghost permits = { λ ds rs start. Reads rs start };
+
+    ghost well_once = { column_well_once };
+
+    ghost indexed_once = { no_index_once };
+
+    ghost false_starts = { column_false_starts };
+
+    ghost lawful = { column_lawful };
+
+    fn index(_counts: &[u32]) {}
+
+    fn exists(&self, counts: &[u32], _index: &()) -> bool {
         let column = self.column as usize;
-        column < limit && self.value < counts[column]
+        column < counts.len() && self.value < counts[column]
     }
 
     fn linked(&self, counts: &[u32], records: &[ColumnNode]) -> bool {
@@ -49,6 +72,30 @@ impl Node for ColumnNode {
     }
 
     fn starts(records: &[ColumnNode], start: u32) -> bool {
-        start == 0 || leads_to(records, 0, start)
+        start == 0 || leads_to(records, 0, start as usize)
+    }
+
+    fn step(
+        _counts: &[u32],
+        _index: &(),
+        records: &[ColumnNode],
+        feature: usize,
+        place: usize,
+        value: usize,
+    ) -> Option<usize> {
+        if !leads_to(records, feature, place) {
+            return None;
+        }
+        let mut link = place;
+        loop {
+            let Link::Record(r) = Link::of(link) else {
+                break None;
+            };
+            let record = records[r];
+            if record.value as usize == value {
+                break Some(record.high as usize);
+            }
+            link = record.low as usize;
+        }
     }
 }

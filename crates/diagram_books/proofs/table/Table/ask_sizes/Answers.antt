@@ -1,0 +1,19 @@
+use Rattle.std.proofs.Common.{length, refl, inl, arith}
+use Rattle.std.proofs.lemmas.Result.{err_from_is_err_and}
+use Rattle.fault.specs.Questions.{Accepts}
+use Rattle.diagram_books.proofs.Asked.{stopped, sizes_early, sizes_late}
+use Rattle.diagram_books.proofs.table.Table.ask_sizes.Goals as goal
+
+pub returns-in_err-ask_features : goal.returns-in_err-ask_features
+returns-in_err-ask_features g c =
+    let p = err_from_is_err_and c.from_residual.result c.from_residual.ensures.1 in
+    rw (p.1, p.2) (sizes_early c.args.self.now.source c.args.self.now.counts.now (length c.args.self.now.records.now) _ c.in_err-ask_features.ensures)
+
+pub returns-then-self-gt2046 : goal.returns-then-self-gt2046
+returns-then-self-gt2046 g c =
+    sizes_late c.args.self.now.source c.args.self.now.counts.now (length c.args.self.now.records.now) _ c.in_ok-ask_features.ensures
+    (stopped _ Accepts 2 0 c.line.result _ (λ h. let over = c.if-self-gt2046.true in omega arith) c.line.ensures)
+
+pub returns : goal.returns
+returns g c =
+    sizes_late c.args.self.now.source c.args.self.now.counts.now (length c.args.self.now.records.now) _ c.in_ok-ask_features.ensures (inl (c.if-self-gt2046.false, refl))

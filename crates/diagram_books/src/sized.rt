@@ -1,0 +1,70 @@
+// The questions on the records and the start, of a table whose sizes are allowed.
+ghost use Rattle.std.specs.Prelude.{◌≡◌, ◌<◌, ◌≤◌, length, slice_index_or};
+ghost use Rattle.fault.specs.Questions.{Accepts, refusal};
+ghost use Rattle.diagram_books.specs.Checks.{AsksRecord, AsksRecords, AsksBody};
+
+use crate::forms::Node;
+use crate::table::Table;
+use fault::Fault;
+
+// A table with at most 24 features and 2,046 records, and the index of its value counts.
+#[derive(Drop)]
+pub(crate) struct SizedTable<'a, N: Node<I>, I: Copy> {
+    pub(crate) table: Table<'a, N>,
+    pub(crate) index: I,
+    ghost few_features: { length table.counts.now ≤ 24 },
+    ghost few_records: { length table.records.now ≤ 2046 },
+    ghost known: { N.indexed table.counts.now index } by { N.indexed_once table.counts.now index },
+}
+
+impl<'a, N: Node<I>, I: Copy> SizedTable<'a, N, I> {
+    // Does what record i tests exist, and are both its links allowed? Constant time.
+    fn ask_record(&self, i: usize, record: &N) -> Result<(), Fault>
+        requires within { i < length self.now.table.records.now }
+        requires same { record.now ≡ slice_index_or self.now.table.records.now i N.form.blank }
+        ensures { AsksRecord self.now.table.source N.form self.now.table.counts.now self.now.table.records.now i Accepts (refusal result) }
+    {
+        let Table {
+            counts,
+            records,
+            ..
+        } = self.table;
+        let line = self.table.source.line(4 + counts.len() + i);
+        if !record.exists(counts, &self.index) {
+            return Err(Fault::NoSuchTest { record: i, line });
+        }
+        if !record.linked(counts, records) {
+            return Err(Fault::BadLink { record: i, line });
+        }
+        Ok(())
+    }
+
+    // Is each record so, from first to last? One step a record.
+    fn ask_records(&self) -> Result<(), Fault>
+        ensures { AsksRecords self.now.table.source N.form self.now.table.counts.now self.now.table.records.now Accepts (refusal result) }
+    {
+        for (i, record) in self.table.records.iter().enumerate() {
+            self.ask_record(i, record)?;
+        }
+        Ok(())
+    }
+
+    // Are the records so, and is the start allowed? One step a record.
+    pub(crate) fn ask_body(&self) -> Result<(), Fault>
+        ensures { AsksBody self.now.table.source N.form self.now.table.counts.now self.now.table.records.now self.now.table.start Accepts (refusal result) }
+    {
+        self.ask_records()?;
+        let Table {
+            counts,
+            records,
+            start,
+            source,
+        } = self.table;
+        if !N::starts(records, start) {
+            return Err(Fault::BadStart {
+                line: source.line(5 + counts.len() + records.len()),
+            });
+        }
+        Ok(())
+    }
+}

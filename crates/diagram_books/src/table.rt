@@ -1,0 +1,51 @@
+// What a maker hands over, and the questions on its sizes.
+ghost use Rattle.std.specs.Prelude.{◌≡◌, ◌≤◌, length};
+ghost use Rattle.fault.specs.Questions.{Accepts, refusal};
+ghost use Rattle.diagram_books.specs.Checks.{AsksFeatures, AsksSizes};
+
+use crate::source::Source;
+use fault::Fault;
+
+// A diagram as it is handed over, unchecked: how many values each feature has, the records, and the start link.
+#[derive(Clone, Copy)]
+pub struct Table<'a, N> {
+    pub counts: &'a [u32],
+    pub records: &'a [N],
+    pub start: u32,
+    pub source: Source,
+}
+
+impl<'a, N: Copy> Table<'a, N> {
+    // Are there 1 to 24 features, each with 1 to 16 values? One step a feature.
+    fn ask_features(&self) -> Result<(), Fault>
+        ensures { AsksFeatures self.now.source self.now.counts.now Accepts (refusal result) }
+    {
+        if self.counts.is_empty() || self.counts.len() > 24 {
+            return Err(Fault::BadFeatureCount {
+                line: self.source.line(2),
+            });
+        }
+        for (feature, count) in self.counts.iter().enumerate() {
+            if *count == 0 || *count > 16 {
+                return Err(Fault::BadValueCount {
+                    feature,
+                    line: self.source.line(3 + feature),
+                });
+            }
+        }
+        Ok(())
+    }
+
+    // Are the features so, and are there at most 2,046 records? One step a feature.
+    pub(crate) fn ask_sizes(&self) -> Result<(), Fault>
+        ensures { AsksSizes self.now.source self.now.counts.now (length self.now.records.now) Accepts (refusal result) }
+    {
+        self.ask_features()?;
+        if self.records.len() > 2046 {
+            return Err(Fault::TooManyRecords {
+                line: self.source.line(3 + self.counts.len()),
+            });
+        }
+        Ok(())
+    }
+}
