@@ -1,22 +1,15 @@
 // Bit tables that are refused, and the question that refuses each.
-use crate::tables::{BITS, COUNTS, bit, refused};
+use crate::tables::{BITS, COUNTS, bit, made, read, refused};
 use book::RuleBook;
 use diagram::BitNode;
-use diagram_books::bits::BitTable;
+use diagram_books::bits::BitDiagram;
 use diagram_books::bits::widths::bit_width;
-use diagram_books::source::Source;
 use fault::Fault;
 use std::test::Fail;
 
 // What the check says of a table with four values and one of two: bits 0 and 1, and bit 2.
-fn outcome(records: &[BitNode], start: u32) -> Result<(), Fault> {
-    let table = BitTable {
-        counts: &[4, 1, 2],
-        records,
-        start,
-        source: Source::Catalogue,
-    };
-    table.check().outcome
+fn outcome<'a>(records: &'a [BitNode], start: u32) -> Result<BitDiagram<'a>, Fault> {
+    read(&[4, 1, 2], records, start).check()
 }
 
 // The fewest bits for each number of values.
@@ -68,38 +61,27 @@ fn starts(rt: HostRuntime) -> Result<(), Fail> {
     refused(&rt, outcome(&[], 2), 5, 0, 8)
 }
 
-// Without a catalogue no fault has a line, and a refused table leaves a book that permits nothing.
+// Without a catalogue no fault has a line; in the place of a refused table stands a book that permits nothing.
 #[test]
 fn memory(rt: HostRuntime) -> Result<(), Fail> {
-    let table = BitTable {
-        counts: &[4, 1, 2],
-        records: &[bit(0, 0, 9)],
-        start: 2,
-        source: Source::Memory,
-    };
-    let checked = table.check();
-    refused(&rt, checked.outcome, 4, 0, 0)?;
-    assert_eq!(rt; checked.book.features(), 1);
-    assert_eq!(rt; checked.book.start(), None);
+    let records = [bit(0, 0, 9)];
+    let checked = made(&[4, 1, 2], &records, 2).check();
+    refused(&rt, checked, 4, 0, 0)?;
+    let book = checked.unwrap_or(BitDiagram::nothing());
+    assert_eq!(rt; book.features(), 1);
+    assert_eq!(rt; book.start(), None);
     Ok(())
 }
 
 // The example's book has the same table.
 #[test]
 fn example(rt: HostRuntime) -> Result<(), Fail> {
-    let table = BitTable {
-        counts: COUNTS,
-        records: BITS,
-        start: 2,
-        source: Source::Memory,
-    };
-    let checked = table.check();
-    checked.outcome?;
-    assert_eq!(rt; checked.book.features(), 3);
-    assert_eq!(rt; checked.book.values(0), 3);
-    assert_eq!(rt; checked.book.values(2), 2);
-    assert_eq!(rt; checked.book.values(3), 0);
-    assert_eq!(rt; checked.book.places(), 5);
-    assert_eq!(rt; checked.book.start(), Some(2));
+    let book = made(COUNTS, BITS, 2).check()?;
+    assert_eq!(rt; book.features(), 3);
+    assert_eq!(rt; book.values(0), 3);
+    assert_eq!(rt; book.values(2), 2);
+    assert_eq!(rt; book.values(3), 0);
+    assert_eq!(rt; book.places(), 5);
+    assert_eq!(rt; book.start(), Some(2));
     Ok(())
 }

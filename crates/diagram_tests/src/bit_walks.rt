@@ -1,19 +1,13 @@
 // Steps and walks through bit diagrams.
-use crate::tables::{BITS, COUNTS, bit};
+use crate::tables::{BITS, COUNTS, bit, made};
 use book::{RuleBook, is_full, is_permitted, walk};
 use diagram::BitNode;
-use diagram_books::bits::BitTable;
-use diagram_books::bits::rule_book::BitDiagram;
-use diagram_books::source::Source;
+use diagram_books::bits::BitDiagram;
 
 fn book<'a>(counts: &'a [u32], records: &'a [BitNode], start: u32) -> BitDiagram<'a> {
-    let table = BitTable {
-        counts,
-        records,
-        start,
-        source: Source::Memory,
-    };
-    table.check().book
+    made(counts, records, start)
+        .check()
+        .unwrap_or(BitDiagram::nothing())
 }
 
 // Each full set of the example: all but size 2 with finish 1.

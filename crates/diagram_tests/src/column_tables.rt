@@ -1,21 +1,14 @@
 // Column tables that are refused, and the question that refuses each.
-use crate::tables::{column, refused};
+use crate::tables::{column, made, read, refused};
 use book::RuleBook;
 use diagram::ColumnNode;
-use diagram_books::columns::ColumnTable;
-use diagram_books::source::Source;
+use diagram_books::columns::ColumnDiagram;
 use fault::Fault;
 use std::test::Fail;
 
 // What the check says of a table with columns of three and two values.
-fn outcome(records: &[ColumnNode], start: u32) -> Result<(), Fault> {
-    let table = ColumnTable {
-        counts: &[3, 2],
-        records,
-        start,
-        source: Source::Catalogue,
-    };
-    table.check().outcome
+fn outcome<'a>(records: &'a [ColumnNode], start: u32) -> Result<ColumnDiagram<'a>, Fault> {
+    read(&[3, 2], records, start).check()
 }
 
 // A column and a value that exist or not, at the record's line, and before the record's links are looked at.
@@ -113,18 +106,14 @@ fn starts(rt: HostRuntime) -> Result<(), Fail> {
     refused(&rt, outcome(&[], 2), 5, 0, 7)
 }
 
-// Without a catalogue no fault has a line, and a refused table leaves a book that permits nothing.
+// Without a catalogue no fault has a line; in the place of a refused table stands a book that permits nothing.
 #[test]
 fn memory(rt: HostRuntime) -> Result<(), Fail> {
-    let table = ColumnTable {
-        counts: &[3, 2],
-        records: &[column(1, 0, 0, 0)],
-        start: 0,
-        source: Source::Memory,
-    };
-    let checked = table.check();
-    refused(&rt, checked.outcome, 4, 0, 0)?;
-    assert_eq!(rt; checked.book.features(), 1);
-    assert_eq!(rt; checked.book.start(), None);
+    let records = [column(1, 0, 0, 0)];
+    let checked = made(&[3, 2], &records, 0).check();
+    refused(&rt, checked, 4, 0, 0)?;
+    let book = checked.unwrap_or(ColumnDiagram::nothing());
+    assert_eq!(rt; book.features(), 1);
+    assert_eq!(rt; book.start(), None);
     Ok(())
 }

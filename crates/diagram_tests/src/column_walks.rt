@@ -1,19 +1,13 @@
 // Steps and walks through column diagrams.
-use crate::tables::{COUNTS, column};
+use crate::tables::{COUNTS, column, made};
 use book::{RuleBook, is_permitted, walk};
 use diagram::ColumnNode;
-use diagram_books::columns::ColumnTable;
-use diagram_books::columns::rule_book::ColumnDiagram;
-use diagram_books::source::Source;
+use diagram_books::columns::ColumnDiagram;
 
 fn book<'a>(counts: &'a [u32], records: &'a [ColumnNode], start: u32) -> ColumnDiagram<'a> {
-    let table = ColumnTable {
-        counts,
-        records,
-        start,
-        source: Source::Memory,
-    };
-    table.check().book
+    made(counts, records, start)
+        .check()
+        .unwrap_or(ColumnDiagram::nothing())
 }
 
 // The example's column form permits what its bit form permits.
@@ -62,8 +56,8 @@ fn example(rt: HostRuntime) {
 // A chain of 16 records, from value 0 to value 15.
 fn chain_of_all() -> [ColumnNode; 16] {
     let mut records = [column(0, 15, 1, 0); 16];
-    for i in 0..15 {
-        records[i] = column(0, i as u32, 1, i as u32 + 3);
+    for (record, (value, low)) in records.iter_mut().zip((0..15).zip(3..18)) {
+        *record = column(0, value, 1, low);
     }
     records
 }

@@ -1,11 +1,9 @@
 // How many features, values and records a table may have, for both forms.
-use crate::tables::{bit, column, refused};
+use crate::tables::{bit, column, made, read, refused};
 use book::RuleBook;
 use diagram::{BitNode, ColumnNode};
-use diagram_books::bits::BitTable;
-use diagram_books::columns::ColumnTable;
 use diagram_books::source::Source;
-use fault::Fault;
+use diagram_books::table::Table;
 use std::test::Fail;
 
 // 0 and 25 features are refused, 1 and 24 pass; the fault names the count's line of a catalogue.
@@ -14,24 +12,24 @@ fn feature_counts(rt: HostRuntime) -> Result<(), Fail> {
     let counts = [1; 25];
     for (n, passes) in [(0, false), (1, true), (24, true), (25, false)] {
         for (source, line) in [(Source::Memory, 0), (Source::Catalogue, 2)] {
-            let bits = BitTable {
+            let bits: Table<'_, BitNode> = Table {
                 counts: &counts[0..n],
                 records: &[],
                 start: 1,
                 source,
             };
-            let columns = ColumnTable {
+            let columns: Table<'_, ColumnNode> = Table {
                 counts: &counts[0..n],
                 records: &[],
                 start: 0,
                 source,
             };
             if passes {
-                bits.check().outcome?;
-                columns.check().outcome?;
+                bits.check()?;
+                columns.check()?;
             } else {
-                refused(&rt, bits.check().outcome, 1, 0, line)?;
-                refused(&rt, columns.check().outcome, 1, 0, line)?;
+                refused(&rt, bits.check(), 1, 0, line)?;
+                refused(&rt, columns.check(), 1, 0, line)?;
             }
         }
     }
@@ -43,75 +41,35 @@ fn feature_counts(rt: HostRuntime) -> Result<(), Fail> {
 fn value_counts(rt: HostRuntime) -> Result<(), Fail> {
     for (third, passes) in [(0, false), (1, true), (16, true), (17, false)] {
         let counts = [16, 1, third, 0];
-        let bits = BitTable {
-            counts: &counts[0..3],
-            records: &[],
-            start: 1,
-            source: Source::Catalogue,
-        };
-        let columns = ColumnTable {
-            counts: &counts[0..3],
-            records: &[],
-            start: 0,
-            source: Source::Catalogue,
-        };
+        let bits = read::<BitNode>(&counts[0..3], &[], 1);
+        let columns = read::<ColumnNode>(&counts[0..3], &[], 0);
         if passes {
-            bits.check().outcome?;
-            columns.check().outcome?;
+            bits.check()?;
+            columns.check()?;
         } else {
-            refused(&rt, bits.check().outcome, 1, 2, 5)?;
-            refused(&rt, columns.check().outcome, 1, 2, 5)?;
+            refused(&rt, bits.check(), 1, 2, 5)?;
+            refused(&rt, columns.check(), 1, 2, 5)?;
         }
     }
-    let both = [0, 17];
-    let bits = BitTable {
-        counts: &both,
-        records: &[bit(9, 9, 9)],
-        start: 9,
-        source: Source::Memory,
-    };
-    refused(&rt, bits.check().outcome, 1, 0, 0)
-}
-
-// How many places the book of a table with two values has.
-fn bit_places(records: &[BitNode]) -> Result<usize, Fault> {
-    let table = BitTable {
-        counts: &[2],
-        records,
-        start: 2,
-        source: Source::Catalogue,
-    };
-    let checked = table.check();
-    checked.outcome?;
-    Ok(checked.book.places())
-}
-
-fn column_places(records: &[ColumnNode]) -> Result<usize, Fault> {
-    let table = ColumnTable {
-        counts: &[2],
-        records,
-        start: 2,
-        source: Source::Catalogue,
-    };
-    let checked = table.check();
-    checked.outcome?;
-    Ok(checked.book.places())
+    refused(&rt, made(&[0, 17], &[bit(9, 9, 9)], 9).check(), 1, 0, 0)
 }
 
 // 2,046 records pass, and 2,047 are refused at the line of their count.
 #[test]
 fn record_counts(rt: HostRuntime) -> Result<(), Fail> {
     let bits = [bit(0, 0, 1); 2047];
-    assert_eq!(rt; bit_places(&bits[0..2046])?, 2048);
-    refused(&rt, bit_places(&bits), 2, 0, 4)?;
+    assert_eq!(rt; read(&[2], &bits[0..2046], 2).check()?.places(), 2048);
+    refused(&rt, read(&[2], &bits, 2).check(), 2, 0, 4)?;
     let columns = [column(0, 1, 1, 0); 2047];
-    assert_eq!(rt; column_places(&columns[0..2046])?, 2048);
-    refused(&rt, column_places(&columns), 2, 0, 4)
+    assert_eq!(rt; read(&[2], &columns[0..2046], 2).check()?.places(), 2048);
+    refused(&rt, read(&[2], &columns, 2).check(), 2, 0, 4)
 }
 
 // Too many records are refused before any of them is looked at.
 #[test]
 fn records_unseen(rt: HostRuntime) -> Result<(), Fail> {
-    refused(&rt, bit_places(&[bit(9, 9, 9); 2047]), 2, 0, 4)?;
-    refused(&rt, column_places(&[column(9, 9, 9, 9); 2047]), 2, 0, 4)
+    let bits = [bit(9, 9, 9); 2047];
+    refused(&rt, read(&[2], &bits, 2).check(), 2, 0, 4)?;
+    let columns = [column(9, 9, 9, 9); 2047];
+    refused(&rt, read(&[2], &columns, 2).check(), 2, 0, 4)
 }
