@@ -8,7 +8,7 @@ use Rattle.catalogue.specs.Forms.{line_of}
 use Rattle.catalogue.specs.Sections.{placed}
 use Rattle.catalogue.specs.Content.{Content, Named, Tables, feature_form}
 use Rattle.catalogue.specs.Whole.{feature_entries, full}
-use Rattle.catalogue.proofs.Tables.{placed-length}
+use Rattle.catalogue.proofs.Filled.{placed-length}
 use Rattle.catalogue.specs.WordLaws.{feature_lawful}
 
 abbrev pub valued : List Feature → List ℕ

@@ -1,7 +1,7 @@
 pub mod Numbers
 pub mod Words
 pub mod Lines
-pub mod Tables
+pub mod Filled
 pub mod Stages
 pub mod Verdicts
 pub mod Held

@@ -21,7 +21,7 @@ use Rattle.catalogue.specs.Sections.{section_lines, section_layout, line_layout,
 use Rattle.catalogue.specs.Content.{kind_form, one_form, feature_form, bit_form, column_form, call_form, RecordsOf, RecordsGood, RecordsFit, record_lines, Content, Tables}
 use Rattle.catalogue.specs.Whole.{bit_table, column_table, record_count, contents, Recorded, NotRecorded}
 use Rattle.catalogue.specs.NumberLaws.{number_lawful, bit_lawful, column_lawful}
-use Rattle.catalogue.proofs.Tables.{line_coded, line_lines_clean, section_coded, section_clean, placed-length, rows_same, counts_same, take-placed}
+use Rattle.catalogue.proofs.Filled.{line_coded, line_lines_clean, section_coded, section_clean, placed-length, rows_same, counts_same, take-placed}
 use Rattle.catalogue.specs.WordLaws.{kind_lawful, one_lawful, feature_lawful, call_lawful}
 
 -- a line that fills no table

@@ -18,7 +18,7 @@ use Rattle.catalogue.specs.Sections.{section_lines, placed}
 use Rattle.catalogue.specs.Content.{kind_form, Named, feature_form, bit_form, column_form, call_form, RecordsOf, record_lines, Content, Tables, lines, Good, Fits, catalogue_layout}
 use Rattle.catalogue.specs.Whole.{feature_entries, bit_table, column_table, bits_over, columns_over, record_count, held, full, contents, NamesIn, Accepted, Stopped, inside, behind, Denied}
 use Rattle.catalogue.specs.WordLaws.{feature_lawful}
-use Rattle.catalogue.proofs.Tables.{placed-length}
+use Rattle.catalogue.proofs.Filled.{placed-length}
 use Rattle.catalogue.proofs.Stages.{from_kind, from_kind_sound, pack, unpack, filled_all, section_length}
 
 -- a new reader has all of its text before it

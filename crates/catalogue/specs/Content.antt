@@ -1,5 +1,5 @@
 -- What a catalogue says, and the lines that say it.
-use Rattle.std.specs.Prelude.{ℕ, ◌≤◌, List, [], ◌∷◌, ◌++◌, map, length, codes, decimal}
+use Rattle.std.specs.Prelude.{ℕ, ◌≤◌, List, [], ◌∷◌, ◌++◌, map, length, replicate, codes, decimal}
 use Rattle.std.specs.List.{AllByRecursion}
 use Rattle.diagram.specs.declared.BitNode.{BitNode}
 use Rattle.diagram.specs.declared.ColumnNode.{ColumnNode}
@@ -90,6 +90,12 @@ pub record Tables : Type 0 where
 
 abbrev pub lent : List Feature → List BitNode → List ColumnNode → List ℕ → List Call → Tables
 lent fs bs cs ps ks = record { features = fs; bits = bs; columns = cs; prices = ps; calls = ks }
+
+-- tables before anything is read, with room for so many features, records of either form, prices and calls
+abbrev pub blank_tables : ℕ → ℕ → ℕ → ℕ → Tables
+blank_tables features records prices calls =
+    lent (replicate features (record { place = 0; length = 0; values = 0 })) (replicate records (record { bit = 0; low = 0; high = 0 }))
+    (replicate records (record { column = 0; value = 0; high = 0; low = 0 })) (replicate prices 0) (replicate calls Lift)
 
 abbrev pub record_lines : (k : Kind) → RecordsOf k → List (List ℕ)
 record_lines Bit rs = section_lines bit_form rs

@@ -41,10 +41,7 @@ impl Feature {
             (λ n. (self.now.place + self.now.length ≤ length text.now) × (n.now ≡ name_in text.now self.now)) }
     {
         let end = self.place.checked_add(self.length)?;
-        if end > text.len() {
-            return None;
-        }
-        Some(&text[self.place..end])
+        text.get(self.place..end)
     }
 }
 

@@ -4,4 +4,5 @@
 pub mod entries;
 pub mod rows;
 mod sections;
+pub mod tables;
 pub mod whole;

@@ -1,6 +1,6 @@
 use Rattle.std.proofs.Common.{◌≡◌, subst, arith}
 use Rattle.std.proofs.lemmas.Result.{err_from_is_err_and}
-use Rattle.catalogue.proofs.Tables.{Rows, rows_more, section_all, counts_not, rows_not}
+use Rattle.catalogue.proofs.Filled.{Rows, rows_more, section_all, counts_not, rows_not}
 use Rattle.catalogue.proofs.sections.section.Goals as goal
 
 pub returns-in_err-n : goal.returns-in_err-n

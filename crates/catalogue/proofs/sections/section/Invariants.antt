@@ -1,4 +1,4 @@
-use Rattle.catalogue.proofs.Tables.{Rows}
+use Rattle.catalogue.proofs.Filled.{Rows}
 use Rattle.catalogue.proofs.sections.section.Given as goal
 
 abbrev pub invariant-loop-i : goal.invariant-loop-i
