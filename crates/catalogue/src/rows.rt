@@ -1,5 +1,5 @@
 // One line for each kind of entry.
-ghost use Rattle.std.specs.Prelude.{◌≡◌, Decides, MatchResult};
+ghost use Rattle.std.specs.Prelude.{MatchResult};
 ghost use Rattle.catalogue.specs.Forms.{Form, Lawful, Said, Unsaid, number_form};
 ghost use Rattle.catalogue.specs.Content.{kind_form, one_form, feature_form, bit_form, column_form, call_form};
 ghost use Rattle.catalogue.specs.WordLaws.{kind_lawful, one_lawful, feature_lawful, call_lawful};
@@ -23,13 +23,6 @@ pub trait Row: Copy {
     ghost lawful: { Lawful form };
 }
 
-// Whether a word is this one. One step a byte.
-fn is_word(word: &[u8], wanted: &[u8]) -> bool
-    ensures { Decides result (word.now ≡ wanted.now) }
-{
-    word == wanted
-}
-
 impl Row for Kind {
     ghost form = { kind_form };
 
@@ -38,13 +31,11 @@ impl Row for Kind {
     fn row(mut line: Line<'_>) -> Result<Kind, Fault> {
         let word = line.word()?;
         line.end()?;
-        if is_word(word, b"B") {
-            return Ok(Kind::Bit);
+        match word {
+            b"B" => Ok(Kind::Bit),
+            b"C" => Ok(Kind::Column),
+            _ => Err(line.ill_formed()),
         }
-        if is_word(word, b"C") {
-            return Ok(Kind::Column);
-        }
-        Err(Fault::IllFormedLine { line: line.number })
     }
 }
 
@@ -54,11 +45,10 @@ impl Row for One {
     ghost lawful = { one_lawful };
 
     fn row(line: Line<'_>) -> Result<One, Fault> {
-        let [n] = line.numbers::<1>()?;
-        if n != 1 {
-            return Err(Fault::IllFormedLine { line: line.number });
+        match u32::row(line)? {
+            1 => Ok(One),
+            _ => Err(line.ill_formed()),
         }
-        Ok(One)
     }
 }
 
@@ -123,22 +113,24 @@ impl Row for Call {
 
     fn row(mut line: Line<'_>) -> Result<Call, Fault> {
         let word = line.word()?;
-        if is_word(word, b"choose") {
-            let [feature, value] = line.numbers::<2>()?;
-            return Ok(Call::Choose { feature, value });
+        match word {
+            b"choose" => {
+                let [feature, value] = line.numbers::<2>()?;
+                Ok(Call::Choose { feature, value })
+            }
+            b"back" => {
+                let [feature] = line.numbers::<1>()?;
+                Ok(Call::Back { feature })
+            }
+            b"ceiling" => {
+                let [cents] = line.numbers::<1>()?;
+                Ok(Call::Ceiling { cents })
+            }
+            b"lift" => {
+                line.end()?;
+                Ok(Call::Lift)
+            }
+            _ => Err(line.ill_formed()),
         }
-        if is_word(word, b"back") {
-            let [feature] = line.numbers::<1>()?;
-            return Ok(Call::Back { feature });
-        }
-        if is_word(word, b"ceiling") {
-            let [cents] = line.numbers::<1>()?;
-            return Ok(Call::Ceiling { cents });
-        }
-        if is_word(word, b"lift") {
-            line.end()?;
-            return Ok(Call::Lift);
-        }
-        Err(Fault::IllFormedLine { line: line.number })
     }
 }
