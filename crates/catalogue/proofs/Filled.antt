@@ -1,9 +1,9 @@
 -- Sections: that their lines tell them apart, how a table fills, and where one is refused. Assumes nothing.
-use Rattle.std.proofs.Common.{◌≡◌, ℕ, zero, suc, ◌+◌, ◌-◌, ◌<◌, ◌⊎◌, List, [], ◌∷◌, ◌++◌, map, length, get_or, take, drop, set, replicate, sym, refl, ap, ◌∙◌, subst, inl, inr, append_assoc, append-nil, add-zero, arith, length-append}
+use Rattle.std.proofs.Common.{◌≡◌, ℕ, zero, suc, ◌+◌, ◌-◌, ◌<◌, ◌≤◌, ◌⊎◌, List, [], ◌∷◌, ◌++◌, map, length, get_or, take, drop, set, replicate, sym, refl, ap, ◌∙◌, subst, inl, inr, append_assoc, append-nil, add-zero, arith, length-append}
 use lib.ListN.{length-replicate}
 use Rattle.std.specs.List.{AllByRecursion}
 use Rattle.std.proofs.ByRecursion.{All-push, All-append}
-use Rattle.std.proofs.lemmas.List.{length_push, length-map, drop_more, set_at, take_at, map-append}
+use Rattle.std.proofs.lemmas.List.{length_push, length-map, length-take, drop_more, set_at, take_at, take-append-drop, drop-append-le, map-append}
 use Rattle.fault.specs.declared.Fault.{Fault}
 use Rattle.fault.specs.Told.{told, file_fault}
 use Rattle.text.specs.declared.reader.Reader.{Reader}
@@ -123,19 +123,37 @@ module _ {E : Type 0} (F : Form E) (law : Lawful F) where
             ∙ ap (λ n. placed F a.at (vs ++ x ∷ []) ++ drop n t) (sym longer);
       }
 
-  pub section_all : (a b c : Reader) (t u : List E) (n : ℕ) → Counted (length t) a b n → Rows b c t u n → Section F a c t u n
-  section_all a b c t u n counted rows =
+  -- the same of a whole table, when its first n entries are filled
+  pub rows_within : (a b : Reader) (t u : List E) (n i : ℕ) → i ≤ n → n ≤ length t → Rows a b (take n t) u i → Rows a b t (u ++ drop n t) i
+  rows_within a b t u n i le fits rows =
+      let front = placed F a.at rows.values in
+      let long : length front ≡ i = placed-length a.at rows.values ∙ rows.count in
+      let inside : length front ≤ length (take n t) = omega (arith, length-take n t) in
+      record {
+        values = rows.values;
+        good = rows.good;
+        count = rows.count;
+        took = rows.took;
+        table =
+            ap (λ l. l ++ drop n t) rows.table
+            ∙ append_assoc front (drop (length front) (take n t)) (drop n t)
+            ∙ ap (λ l. front ++ l) (sym (drop-append-le (length front) (take n t) (drop n t) inside) ∙ ap (drop (length front)) (take-append-drop n t));
+      }
+
+  pub section_all : (a b c : Reader) (t u : List E) (n i : ℕ) → Counted (length t) a b n → i ≡ n → Rows b c t u i → Section F a c t u n
+  section_all a b c t u n i counted all rows =
+      let count : n ≡ length rows.values = sym (rows.count ∙ all) in
       let begin : b.at ≡ a.at + length (ended (line_of number_form n)) = counted.took.at ∙ ap (λ l. a.at + length l) (append-nil (ended (line_of number_form n))) in
       record {
         values = rows.values;
-        good = (rows.good, subst Small (sym rows.count) counted.small);
-        fits = omega (arith, rows.count, counted.fits);
-        count = sym rows.count;
-        took = subst (λ k. Took a c (line_of number_form k ∷ map (line_of F) rows.values)) (sym rows.count) (took_more a b c (line_of number_form n ∷ []) (map (line_of F) rows.values) counted.took rows.took);
+        good = (rows.good, subst Small count counted.small);
+        fits = omega (arith, count, counted.fits);
+        count = count;
+        took = subst (λ k. Took a c (line_of number_form k ∷ map (line_of F) rows.values)) count (took_more a b c (line_of number_form n ∷ []) (map (line_of F) rows.values) counted.took rows.took);
         table =
             rows.table
             ∙ ap (λ k. over (placed F k rows.values) t) begin
-            ∙ ap (λ k. over (placed F (a.at + length (ended (line_of number_form k))) rows.values) t) (sym rows.count);
+            ∙ ap (λ k. over (placed F (a.at + length (ended (line_of number_form k))) rows.values) t) count;
       }
 
   -- the count is refused

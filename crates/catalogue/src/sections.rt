@@ -39,9 +39,8 @@ pub(crate) fn section<R: Row>(reader: &mut Reader<'_>, table: &mut [R]) -> Resul
         (λ f. NoSection R.form reader.old table.old table.new f) }
 {
     let n = count(reader, table.len())?;
-    for i in 0..n {
-        let row = entry::<R>(reader)?;
-        table[i] = row;
+    for slot in &mut table[..n] {
+        *slot = entry(reader)?;
     }
     Ok(n)
 }

@@ -1,6 +1,7 @@
-use Rattle.std.proofs.Common.{◌≡◌, subst, arith}
+use Rattle.std.proofs.Common.{◌≡◌, ◌<◌, ◌≤◌, subst, arith, length, take, drop, ◌++◌, set, get_or, List}
+use Rattle.std.proofs.lemmas.List.{length-take, set-get_or}
 use Rattle.std.proofs.lemmas.Result.{err_from_is_err_and}
-use Rattle.catalogue.proofs.Filled.{Rows, rows_more, section_all, counts_not, rows_not}
+use Rattle.catalogue.proofs.Filled.{Rows, rows_more, rows_within, section_all, counts_not, rows_not}
 use Rattle.catalogue.proofs.sections.section.Goals as goal
 
 pub returns-in_err-n : goal.returns-in_err-n
@@ -8,17 +9,20 @@ returns-in_err-n g c =
     let p = err_from_is_err_and c.from_residual.result c.from_residual.ensures.1 in
     rw (p.1, p.2) (counts_not g.R.Row.form g.met.R.Row.lawful _ _ _ c.in_err-n.ensures)
 
-pub returns-in_err-row : goal.returns-in_err-row
-returns-in_err-row g c =
-    let p = err_from_is_err_and c.from_residual-in_err-row.result c.from_residual-in_err-row.ensures.1 in
-    rw (p.1, p.2) (rows_not g.R.Row.form g.met.R.Row.lawful _ _ _ _ _ _ _ _ c.in_ok-n.ensures c.loop-i.invariant (omega arith) c.in_err-row.ensures)
+pub returns-in_err-slot : goal.returns-in_err-slot
+returns-in_err-slot g c =
+    let p = err_from_is_err_and c.from_residual-in_err-slot.result c.from_residual-in_err-slot.ensures.1 in
+    let fits = c.in_ok-n.ensures.fits in
+    let size = length-take c.in_ok-n.n c.args.table.now in
+    rw (p.1, p.2, set-get_or) (rows_not g.R.Row.form g.met.R.Row.lawful _ _ _ _ _ _ _ _ c.in_ok-n.ensures (rows_within g.R.Row.form g.met.R.Row.lawful _ _ _ _ _ _ (omega arith) fits c.loop-slot.invariant) (omega arith) c.in_err-slot.ensures)
 
-pub loop-i-preserved : goal.loop-i-preserved
-loop-i-preserved g c =
-    rows_more g.R.Row.form g.met.R.Row.lawful _ _ _ _ _ _ _ (omega (arith, c.in_ok-n.ensures.fits)) c.loop-i.invariant c.in_ok-row.ensures
+pub loop-slot-preserved : goal.loop-slot-preserved
+loop-slot-preserved g c =
+    rows_more g.R.Row.form g.met.R.Row.lawful _ _ _ _ _ _ _ c.loop-slot-test.true c.loop-slot.invariant c.in_ok-slot.ensures
 
 pub returns : goal.returns
 returns g c =
-    let all : c.loop-i.i ≡ c.in_ok-n.n = omega arith in
-    section_all g.R.Row.form g.met.R.Row.lawful _ _ _ _ _ _ c.in_ok-n.ensures
-    (subst (Rows g.R.Row.form g.met.R.Row.lawful c.count.new.reader c.loop-i.reader c.args.table.now c.loop-i.table) all c.loop-i.invariant)
+    let fits = c.in_ok-n.ensures.fits in
+    let size = length-take c.in_ok-n.n c.args.table.now in
+    section_all g.R.Row.form g.met.R.Row.lawful _ _ _ _ _ _ _ c.in_ok-n.ensures (omega arith)
+    (rows_within g.R.Row.form g.met.R.Row.lawful _ _ _ _ _ _ (omega arith) fits c.loop-slot.invariant)
