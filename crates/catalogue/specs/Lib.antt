@@ -4,3 +4,4 @@ pub mod Sections
 pub mod Whole
 pub mod NumberLaws
 pub mod WordLaws
+pub mod Desk

@@ -1,7 +1,7 @@
 // Takes in what the program is given, no further than it will look at it.
 ghost use Rattle.std.specs.Prelude.{◌≡◌};
 
-use crate::survey::LIMIT;
+use catalogue::desk::LIMIT;
 use std::alloc::Global;
 use std::io;
 use std::io::Read;

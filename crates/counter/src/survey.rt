@@ -1,48 +1,16 @@
 // Reads a text with the program's own tables.
 ghost use Rattle.counter.specs.Surveys.{Surveyed};
 
-use catalogue::entries::{Call, Contents, Feature};
-use catalogue::whole::read;
-use diagram::{BitNode, ColumnNode};
+use catalogue::desk::DeskTables;
+use catalogue::entries::Contents;
 use fault::Fault;
-
-// The most bytes that a catalogue may have.
-pub const LIMIT: usize = 16384;
 
 // What a catalogue of at most 16,384 bytes says, or why it is refused. There are tables for 24 features, 64 records of
 // either form, 384 prices and 64 calls. One step a byte of the text; nothing is allocated.
 pub fn survey(text: &[u8]) -> Result<Contents, Fault>
     ensures { Surveyed text.now result }
 {
-    if text.len() > LIMIT {
-        return Err(Fault::TableTooSmall { line: 0 });
-    }
-    let mut features = [Feature {
-        place: 0,
-        length: 0,
-        values: 0,
-    }; 24];
-    let mut bits = [BitNode {
-        bit: 0,
-        low: 0,
-        high: 0,
-    }; 64];
-    let mut columns = [ColumnNode {
-        column: 0,
-        value: 0,
-        high: 0,
-        low: 0,
-    }; 64];
-    let mut prices = [0; 384];
-    let mut calls = [Call::Lift; 64];
-    read(
-        text,
-        &mut features,
-        &mut bits,
-        &mut columns,
-        &mut prices,
-        &mut calls,
-    )
+    DeskTables::blank().take(text)
 }
 
 #[cfg(test)]

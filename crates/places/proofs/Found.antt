@@ -1,9 +1,9 @@
 -- What stands in the tables of a catalogue that was read.
-use Rattle.std.proofs.Common.{◌≡◌, ℕ, ◌+◌, ◌<◌, ◌≤◌, List, map, length, get_or, take, drop, IfOk, Ok, Err, Option, Result, sym, refl, ap, ◌∙◌, subst, arith, length-take}
+use Rattle.std.proofs.Common.{◌≡◌, ℕ, ◌+◌, ◌<◌, ◌≤◌, List, map, length, get_or, take, drop, IfOk, Ok, Err, Some, None, Option, Result, sym, refl, ap, ◌∙◌, subst, ⊎_elim, arith, length-take}
 use lib.Seq.{take-append_seam}
 use Rattle.std.proofs.lemmas.List.{get_or_default, get_or-map, length-map, same_lists}
 use Rattle.fault.specs.declared.Fault.{Fault}
-use Rattle.fault.specs.Told.{Told}
+use Rattle.fault.specs.Told.{Told, file_fault}
 use Rattle.node.specs.Bits.{bit_form}
 use Rattle.node.specs.Columns.{column_form}
 use Rattle.diagram_books.specs.declared.source.Source.TheVariants.{Catalogue}
@@ -17,7 +17,8 @@ use Rattle.catalogue.specs.declared.entries.Kind.TheVariants.{Bit, Column}
 use Rattle.catalogue.specs.Content.{Content, RecordsFit, RecordsOf, Tables}
 use Rattle.catalogue.specs.Whole.{Accepted, bits_over, columns_over, contents, full, record_count}
 use Rattle.catalogue.proofs.Held.{counts_held, valued}
-use Rattle.places.specs.Surveys.{AsksContent, AsksKind, AsksTables, blank, first_records}
+use Rattle.catalogue.specs.Desk.{Taken, Within, Unread, blank}
+use Rattle.places.specs.Surveys.{AsksContent, AsksKind, AsksTables, first_records}
 
 -- a row that has each feature's values is that of the values
 pub all_valued : (fs : List Feature) (ds : List ℕ) (d : Feature) → length ds ≡ length fs → ((k : ℕ) → k < length fs → get_or ds k 0 ≡ (get_or fs k d).values) → ds ≡ valued fs
@@ -57,12 +58,9 @@ module _ (c : Contents) (fs : List Feature) (bs : List BitNode) (cs : List Colum
       (subst (λ (xs : List ColumnNode). AsksTable Catalogue column_form (take c.features (valued fs)) xs c.start r) records
       (subst (λ (xs : List ℕ). AsksTable Catalogue column_form xs rs c.start r) counts h))
 
-pub places_at : {N : Type 0} (r : Result ℕ Fault) (rs table : List N) (m : ℕ) → m ≤ length table → rs ≡ take m table → IfOk r (λ p. p ≡ length rs + 2) → IfOk r (λ p. p ≡ m + 2)
-places_at (Ok p) rs table m fits records e =
-    let size = ap length records in
-    let short = length-take m table in
-    omega arith
-places_at (Err f) rs table m fits records e = tt
+-- a text that was taken is not too long
+pub taken_short : (bs : List ℕ) (t u : Tables) (k : Contents) → Taken bs t u (Ok k) → Within bs t u (Ok k)
+taken_short bs t u k = ⊎_elim (λ w. w) (λ (w : Unread bs t u (Ok k)). absurd (let never : ◌≡◌ {A = Option Told} None (Some (file_fault 17 0)) = w.too_long.refused in cc))
 
 -- what an accepted text leaves in the program's tables
 module _ (bs : List ℕ) (after : Tables) (k : Contents) (a : Accepted bs blank after k) where

@@ -1,7 +1,6 @@
 -- What is found in a text: with tables for 24 features, 64 records, 384 prices and 64 calls.
-use Rattle.std.specs.Prelude.{◌≡◌, ℕ, ◌+◌, ◌<◌, ◌≤◌, ◌⊎◌, List, map, length, take, replicate, IfOk, Some, Err, Result}
+use Rattle.std.specs.Prelude.{◌≡◌, ℕ, ◌+◌, ◌≤◌, ◌⊎◌, List, map, length, take, IfOk, Err, Result}
 use Rattle.fault.specs.declared.Fault.{Fault}
-use Rattle.fault.specs.Told.{file_fault}
 use Rattle.fault.specs.Questions.{Chain, refusal}
 use Rattle.diagram.specs.declared.BitNode.{BitNode}
 use Rattle.diagram.specs.declared.ColumnNode.{ColumnNode}
@@ -9,19 +8,13 @@ use Rattle.node.specs.Bits.{bit_form}
 use Rattle.node.specs.Columns.{column_form}
 use Rattle.diagram_books.specs.declared.source.Source.TheVariants.{Catalogue}
 use Rattle.diagram_books.specs.Checks.{AsksTable}
-use Rattle.catalogue.specs.declared.entries.Call.TheVariants.{Lift}
 use Rattle.catalogue.specs.declared.entries.Contents.{Contents}
 use Rattle.catalogue.specs.declared.entries.Feature.{Feature}
 use Rattle.catalogue.specs.declared.entries.Kind.{Kind}
 use Rattle.catalogue.specs.declared.entries.Kind.TheVariants.{Bit, Column}
-use Rattle.catalogue.specs.Content.{Content, RecordsOf, Tables, lent}
+use Rattle.catalogue.specs.Content.{Content, RecordsOf, Tables}
+use Rattle.catalogue.specs.Desk.{blank, TooLong}
 use Rattle.catalogue.specs.Whole.{Accepted, Denied}
-
--- the tables, before anything is read
-abbrev pub blank : Tables
-blank =
-    lent (replicate 24 (record { place = 0; length = 0; values = 0 })) (replicate 64 (record { bit = 0; low = 0; high = 0 }))
-    (replicate 64 (record { column = 0; value = 0; high = 0; low = 0 })) (replicate 384 0) (replicate 64 Lift)
 
 -- the questions of a catalogue's table, by its kind
 abbrev pub AsksKind : (k : Kind) → List ℕ → RecordsOf k → ℕ → Chain
@@ -58,9 +51,5 @@ pub record Unread (bs : List ℕ) (r : Result ℕ Fault) : Type 0 where
   pub is : r ≡ Err fault
 
 -- a longer text is refused by 17 at line 0
-pub record TooLong (bs : List ℕ) (r : Result ℕ Fault) : Type 0 where
-  pub long : 16384 < length bs
-  pub refused : refusal r ≡ Some (file_fault 17 0)
-
 abbrev pub Surveyed : List ℕ → Result ℕ Fault → Type 0
 Surveyed bs r = Read bs r ⊎ (Unread bs r ⊎ TooLong bs r)

@@ -2,13 +2,8 @@
 ghost use Rattle.places.specs.Surveys.{Surveyed};
 
 use crate::judge::judge;
-use catalogue::entries::{Call, Feature};
-use catalogue::whole::read;
-use diagram::{BitNode, ColumnNode};
+use catalogue::desk::DeskTables;
 use fault::Fault;
-
-// The most bytes that a catalogue may have.
-pub const LIMIT: usize = 16384;
 
 // How many places the rule book of a catalogue has, or why the catalogue is refused: by the reader, whose text has at most
 // 16,384 bytes, or by the check of its table. There are tables for 24 features, 64 records of either form, 384 prices and
@@ -16,36 +11,9 @@ pub const LIMIT: usize = 16384;
 pub fn survey(text: &[u8]) -> Result<usize, Fault>
     ensures { Surveyed text.now result }
 {
-    if text.len() > LIMIT {
-        return Err(Fault::TableTooSmall { line: 0 });
-    }
-    let mut features = [Feature {
-        place: 0,
-        length: 0,
-        values: 0,
-    }; 24];
-    let mut bits = [BitNode {
-        bit: 0,
-        low: 0,
-        high: 0,
-    }; 64];
-    let mut columns = [ColumnNode {
-        column: 0,
-        value: 0,
-        high: 0,
-        low: 0,
-    }; 64];
-    let mut prices = [0; 384];
-    let mut calls = [Call::Lift; 64];
-    let contents = read(
-        text,
-        &mut features,
-        &mut bits,
-        &mut columns,
-        &mut prices,
-        &mut calls,
-    )?;
-    judge(&contents, &features, &bits, &columns)
+    let mut tables = DeskTables::blank();
+    let contents = tables.take(text)?;
+    judge(&contents, &tables)
 }
 
 #[cfg(test)]

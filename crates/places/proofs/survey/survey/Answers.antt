@@ -1,26 +1,31 @@
-use Rattle.std.proofs.Common.{Err, ap, ◌∙◌, inl, inr}
+use Rattle.std.proofs.Common.{Err, ap, ◌∙◌, ⊎_elim, inl, inr}
 use Rattle.std.proofs.lemmas.Result.{err_from_is_err_and}
-use Rattle.places.proofs.Found.{asked_of, features_at_most, records_at_most}
+use Rattle.fault.specs.Questions.{refusal}
+use Rattle.places.proofs.Found.{asked_of, features_at_most, records_at_most, taken_short}
 use Rattle.places.proofs.survey.survey.Goals as goal
 
 pub returns-in_err-contents : goal.returns-in_err-contents
 returns-in_err-contents c =
     let p = err_from_is_err_and c.from_residual.result c.from_residual.ensures.1 in
-    inr (inl (record { short = c.if-text-gt-LIMIT.false; after = _; fault = _; denied = c.in_err-contents.ensures; is = p.1 ∙ ap Err p.2 }))
+    let e = p.1 ∙ ap Err p.2 in
+    ⊎_elim
+    (λ w. inr (inl (record { short = w.short; after = _; fault = _; denied = w.judged; is = e })))
+    (λ w. inr (inr (record { long = w.too_long.long; refused = ap refusal e ∙ w.too_long.refused })))
+    (rw c.blank-tables.ensures at c.in_err-contents.ensures)
 
 pub judge-requires : goal.judge-requires
 judge-requires c =
-    let a = c.in_ok-contents.ensures in
+    let a = (taken_short _ _ _ _ (rw c.blank-tables.ensures at c.in_ok-contents.ensures)).judged in
     record { few_features = features_at_most _ _ _ a; few_records = records_at_most _ _ _ a }
 
 pub returns : goal.returns
 returns c =
-    let a = c.in_ok-contents.ensures in
+    let w = taken_short _ _ _ _ (rw c.blank-tables.ensures at c.in_ok-contents.ensures) in
     inl (record {
-      short = c.if-text-gt-LIMIT.false;
+      short = w.short;
       after = _;
       contents = c.in_ok-contents.contents;
-      accepted = a;
-      asked = asked_of _ _ _ a _ c.judge.ensures.asked;
+      accepted = w.judged;
+      asked = asked_of _ _ _ w.judged _ c.judge.ensures.asked;
       places = c.judge.ensures.places;
     })
