@@ -73,28 +73,23 @@ impl Fault {
         ensures { result ≡ (told self.now).number }
     {
         match self {
-            Fault::BadFeatureCount { line: _ } => 1,
-            Fault::BadValueCount {
-                feature: _,
-                line: _,
-            } => 1,
-            Fault::TooManyRecords { line: _ } => 2,
-            Fault::NoSuchTest { record: _, line: _ } => 3,
-            Fault::BadLink { record: _, line: _ } => 4,
-            Fault::BadStart { line: _ } => 5,
+            Fault::BadFeatureCount { .. } | Fault::BadValueCount { .. } => 1,
+            Fault::TooManyRecords { .. } => 2,
+            Fault::NoSuchTest { .. } => 3,
+            Fault::BadLink { .. } => 4,
+            Fault::BadStart { .. } => 5,
             Fault::PriceCount => 6,
             Fault::StripLength => 7,
             Fault::SlipOfAnotherBook => 8,
-            Fault::NoSuchFeature { feature: _ } => 9,
-            Fault::NoSuchValue { feature: _ } => 10,
+            Fault::NoSuchFeature { .. } => 9,
+            Fault::NoSuchValue { .. } => 10,
             Fault::ResultLength => 11,
             Fault::FeatureNotChosen => 12,
             Fault::NothingFits => 13,
-            Fault::ChoiceWouldNotFit { feature: _ } => 14,
-            Fault::CeilingWouldNotFit => 14,
-            Fault::IllFormedLine { line: _ } => 15,
-            Fault::TextEnd { line: _ } => 16,
-            Fault::TableTooSmall { line: _ } => 17,
+            Fault::ChoiceWouldNotFit { .. } | Fault::CeilingWouldNotFit => 14,
+            Fault::IllFormedLine { .. } => 15,
+            Fault::TextEnd { .. } => 16,
+            Fault::TableTooSmall { .. } => 17,
         }
     }
 
@@ -102,13 +97,10 @@ impl Fault {
     pub fn layer(&self) -> Layer
         ensures { result ≡ (told self.now).layer }
     {
-        let number = self.number();
-        if number <= 5 {
-            Layer::Table
-        } else if number <= 14 {
-            Layer::Slip
-        } else {
-            Layer::File
+        match self.number() {
+            1..=5 => Layer::Table,
+            6..=14 => Layer::Slip,
+            _ => Layer::File,
         }
     }
 
@@ -117,12 +109,11 @@ impl Fault {
         ensures { result ≡ (told self.now).place }
     {
         match self {
-            Fault::BadValueCount { feature, line: _ } => *feature,
-            Fault::NoSuchTest { record, line: _ } => *record,
-            Fault::BadLink { record, line: _ } => *record,
-            Fault::NoSuchFeature { feature } => *feature,
-            Fault::NoSuchValue { feature } => *feature,
-            Fault::ChoiceWouldNotFit { feature } => *feature,
+            Fault::BadValueCount { feature, .. }
+            | Fault::NoSuchFeature { feature }
+            | Fault::NoSuchValue { feature }
+            | Fault::ChoiceWouldNotFit { feature } => *feature,
+            Fault::NoSuchTest { record, .. } | Fault::BadLink { record, .. } => *record,
             _ => 0,
         }
     }
@@ -132,15 +123,15 @@ impl Fault {
         ensures { result ≡ (told self.now).line }
     {
         match self {
-            Fault::BadFeatureCount { line } => *line,
-            Fault::BadValueCount { feature: _, line } => *line,
-            Fault::TooManyRecords { line } => *line,
-            Fault::NoSuchTest { record: _, line } => *line,
-            Fault::BadLink { record: _, line } => *line,
-            Fault::BadStart { line } => *line,
-            Fault::IllFormedLine { line } => *line,
-            Fault::TextEnd { line } => *line,
-            Fault::TableTooSmall { line } => *line,
+            Fault::BadFeatureCount { line }
+            | Fault::BadValueCount { line, .. }
+            | Fault::TooManyRecords { line }
+            | Fault::NoSuchTest { line, .. }
+            | Fault::BadLink { line, .. }
+            | Fault::BadStart { line }
+            | Fault::IllFormedLine { line }
+            | Fault::TextEnd { line }
+            | Fault::TableTooSmall { line } => *line,
             _ => 0,
         }
     }
@@ -161,66 +152,36 @@ impl fmt::Display for Fault {
 #[cfg(test)]
 mod tests {
     use super::Fault;
-    use std::alloc::Global;
-    use std::process::Abort;
     use std::test::Fail;
-
-    fn prints(rt: &impl Abort, heap: Global, fault: Fault, line: &str) -> Result<(), Fail> {
-        assert_eq!(rt; fault.to_string(heap)?.as_str(), line);
-        Ok(())
-    }
 
     // One fault of each layer and of each way to have a place and a line.
     #[test]
     fn lines(rt: HostRuntime) -> Result<(), Fail> {
-        prints(
-            &rt,
-            rt.alloc(),
-            Fault::BadFeatureCount { line: 2 },
-            "fault 1 table 0 2",
-        )?;
-        prints(
-            &rt,
-            rt.alloc(),
-            Fault::BadValueCount {
-                feature: 4,
-                line: 7,
-            },
-            "fault 1 table 4 7",
-        )?;
-        prints(
-            &rt,
-            rt.alloc(),
-            Fault::BadLink {
-                record: 3,
-                line: 12,
-            },
-            "fault 4 table 3 12",
-        )?;
-        prints(&rt, rt.alloc(), Fault::PriceCount, "fault 6 slip 0 0")?;
-        prints(
-            &rt,
-            rt.alloc(),
-            Fault::NoSuchValue { feature: 23 },
-            "fault 10 slip 23 0",
-        )?;
-        prints(
-            &rt,
-            rt.alloc(),
-            Fault::ChoiceWouldNotFit { feature: 2 },
-            "fault 14 slip 2 0",
-        )?;
-        prints(
-            &rt,
-            rt.alloc(),
-            Fault::CeilingWouldNotFit,
-            "fault 14 slip 0 0",
-        )?;
-        prints(
-            &rt,
-            rt.alloc(),
-            Fault::TableTooSmall { line: 0 },
-            "fault 17 file 0 0",
-        )
+        let faults = [
+            (Fault::BadFeatureCount { line: 2 }, "fault 1 table 0 2"),
+            (
+                Fault::BadValueCount {
+                    feature: 4,
+                    line: 7,
+                },
+                "fault 1 table 4 7",
+            ),
+            (
+                Fault::BadLink {
+                    record: 3,
+                    line: 12,
+                },
+                "fault 4 table 3 12",
+            ),
+            (Fault::PriceCount, "fault 6 slip 0 0"),
+            (Fault::NoSuchValue { feature: 23 }, "fault 10 slip 23 0"),
+            (Fault::ChoiceWouldNotFit { feature: 2 }, "fault 14 slip 2 0"),
+            (Fault::CeilingWouldNotFit, "fault 14 slip 0 0"),
+            (Fault::TableTooSmall { line: 0 }, "fault 17 file 0 0"),
+        ];
+        for (fault, line) in faults {
+            assert_eq!(rt; fault.to_string(rt.alloc())?.as_str(), line);
+        }
+        Ok(())
     }
 }
