@@ -1,11 +1,17 @@
 -- A row of numbers, one after another. Assumes nothing.
-use Rattle.std.proofs.Common.{◌≡◌, ℕ, ◌+◌, ◌<◌, List, [], ◌∷◌, ◌++◌, map, length, take, set, decimal, sym, refl, ap, ◌∙◌, subst, append_assoc, append-nil, arith, length-set}
+use Rattle.std.proofs.Common.{◌≡◌, ℕ, ◌+◌, ◌<◌, ◌≤◌, List, [], ◌∷◌, ◌++◌, map, length, take, set, decimal, sym, refl, ap, ◌∙◌, subst, append_assoc, append-nil, arith, length-set}
 use Rattle.std.specs.List.{AllByRecursion}
 use Rattle.std.proofs.ByRecursion.{All-push}
 use Rattle.std.proofs.lemmas.List.{take_all, take_more_set, length-take-le, map-append}
+use Rattle.fault.specs.declared.Fault.{Fault}
+use Rattle.fault.specs.Told.{file_fault}
 use Rattle.text.specs.declared.line.Line.{Line}
 use Rattle.text.specs.Fields.{Small}
-use Rattle.text.specs.Tokens.{left}
+use Rattle.text.specs.Tokens.{left, IllFormed}
+
+-- f is the fault of the line a that is no row of n numbers
+abbrev NotRow : Line → ℕ → Fault → Type 0
+NotRow a n f = IllFormed a f × ((ns : List ℕ) → length ns ≡ n → AllByRecursion Small ns → left a ≡ map decimal ns → ⊥)
 
 -- the first i of n numbers are read, between the lines a and b
 pub record Begun (a b : Line) (numbers : List ℕ) (i n : ℕ) : Type 0 where
@@ -44,18 +50,24 @@ last_number (m ∷ seen) [] more same e = absurd (omega arith)
 last_number (m ∷ seen) (n ∷ ns) more same e = last_number seen ns more (omega arith) (cc)
 
 -- no row of n numbers, where the next field is no number, or where a field is left after the last
-pub stuck : (a b : Line) (numbers : List ℕ) (i n : ℕ) → i < n → Begun a b numbers i n → ((v : ℕ) (more : List (List ℕ)) → Small v → left b ≡ decimal v ∷ more → ⊥) → (ns : List ℕ) → length ns ≡ n → AllByRecursion Small ns → left a ≡ map decimal ns → ⊥
-stuck a b numbers i n lt begun none ns long small is =
-    let seen : length (take i numbers) ≡ i = length-take-le i numbers (omega (arith, begun.long)) in
-    let q = next_number (take i numbers) ns (left b) (omega arith) small (sym begun.fields ∙ is) in
-    none q.0 q.1 q.2 q.3
+pub stuck : (a b : Line) (numbers : List ℕ) (i n : ℕ) (f : Fault) → i < n → Begun a b numbers i n → IllFormed b f → ((v : ℕ) (more : List (List ℕ)) → Small v → left b ≡ decimal v ∷ more → ⊥) → NotRow a n f
+stuck a b numbers i n f lt begun is none = (
+  is ∙ ap (file_fault 15) begun.number,
+  λ ns long small e.
+      let seen : length (take i numbers) ≡ i = length-take-le i numbers (omega (arith, begun.long)) in
+      let q = next_number (take i numbers) ns (left b) (omega arith) small (sym begun.fields ∙ e) in
+      none q.0 q.1 q.2 q.3,
+)
 
-pub too_many : (a b : Line) (numbers : List ℕ) (n : ℕ) → Begun a b numbers n n → (left b ≡ [] → ⊥) → (ns : List ℕ) → length ns ≡ n → AllByRecursion Small ns → left a ≡ map decimal ns → ⊥
-too_many a b numbers n begun some ns long small is =
-    let seen : length (take n numbers) ≡ n = length-take-le n numbers (omega (arith, begun.long)) in
-    some (last_number (take n numbers) ns (left b) (omega arith) (sym begun.fields ∙ is))
+pub too_many : (a b : Line) (numbers : List ℕ) (i n : ℕ) (f : Fault) → n ≤ i → Begun a b numbers i n → IllFormed b f → (left b ≡ [] → ⊥) → NotRow a n f
+too_many a b numbers i n f end begun is some = (
+  is ∙ ap (file_fault 15) begun.number,
+  λ ns long small e.
+      let all = take_all i numbers (omega (arith, begun.long)) in
+      some (last_number (take i numbers) ns (left b) (omega (arith, begun.long, ap length all)) (sym begun.fields ∙ e)),
+)
 
-pub begun_all : (a b : Line) (numbers : List ℕ) (n : ℕ) → Begun a b numbers n n → left b ≡ [] → (length numbers ≡ n) × AllByRecursion Small numbers × (left a ≡ map decimal numbers)
-begun_all a b numbers n begun none =
-    let all = take_all n numbers (omega (arith, begun.long)) in
-    (begun.long, subst (AllByRecursion Small) all begun.small, begun.fields ∙ ap (λ l. map decimal (take n numbers) ++ l) none ∙ append-nil (map decimal (take n numbers)) ∙ ap (map decimal) all)
+pub begun_all : (a b : Line) (numbers : List ℕ) (i n : ℕ) → n ≤ i → Begun a b numbers i n → left b ≡ [] → (length numbers ≡ n) × AllByRecursion Small numbers × (left a ≡ map decimal numbers)
+begun_all a b numbers i n end begun none =
+    let all = take_all i numbers (omega (arith, begun.long)) in
+    (begun.long, subst (AllByRecursion Small) all begun.small, begun.fields ∙ ap (λ l. map decimal (take i numbers) ++ l) none ∙ append-nil (map decimal (take i numbers)) ∙ ap (map decimal) all)

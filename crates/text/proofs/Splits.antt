@@ -4,7 +4,7 @@ use Rattle.std.proofs.lemmas.Bool.Decides.{nat_tests}
 use Rattle.std.proofs.lemmas.List.{take_rest}
 use Rattle.std.specs.List.{AllByRecursion}
 use Rattle.text.specs.Fields.{Lacks, behind, spaced, longer, fields}
-use Rattle.text.proofs.Cuts.{lacks_all, cut_at, same_front}
+use Rattle.text.proofs.Cuts.{cut_at}
 
 -- the first field, where a space follows
 pub fields_cut : (f r : List ℕ) → Lacks 32 f → fields (f ++ 32 ∷ r) ≡ f ∷ fields r
@@ -35,11 +35,8 @@ fields_some [] e = let z : ◌≡◌ {A = ℕ} 0 1 = cc in omega arith
 fields_some (b ∷ s) e = first_some b (eqb b 32) (fields s) e
 
 -- the cut as the code makes it, at n
-pub cut_last : (s : List ℕ) (n : ℕ) → n ≡ length s → Lacks 32 (take n s) → fields s ≡ s ∷ []
-cut_last s n e h = fields_last s (lacks_all 32 s n e h)
-
-pub cut_first : (s : List ℕ) (n : ℕ) → n < length s → Lacks 32 (take n s) → get_or s n 0 ≡ 32 → fields s ≡ take (n - 0) s ∷ fields (take (length s - (n + 1)) (drop (n + 1) s))
-cut_first s n lt h e = rw (same_front s n, take_rest s (n + 1)) (ap fields (cut_at 32 s n lt e) ∙ fields_cut (take n s) (drop (n + 1) s) h)
+pub cut_first : (s : List ℕ) (n : ℕ) → n < length s → Lacks 32 (take n s) → get_or s n 0 ≡ 32 → fields s ≡ take n s ∷ fields (take (length s - (n + 1)) (drop (n + 1) s))
+cut_first s n lt h e = rw (take_rest s (n + 1)) (ap fields (cut_at 32 s n lt e) ∙ fields_cut (take n s) (drop (n + 1) s) h)
 
 behind_is : (fs : List (List ℕ)) → (fs ≡ [] → ⊥) → behind fs ≡ 32 ∷ spaced fs
 behind_is [] some = absurd (some refl)

@@ -1,5 +1,7 @@
 -- The lines of a text, and what a reader has taken of them.
 use Rattle.std.specs.Prelude.{◌≡◌, ℕ, ◌+◌, List, [], ◌∷◌, ◌++◌, length, drop}
+use Rattle.fault.specs.declared.Fault.{Fault}
+use Rattle.fault.specs.Told.{told, file_fault}
 use Rattle.text.specs.declared.line.Line.{Line}
 use Rattle.text.specs.declared.reader.Reader.{Reader}
 use Rattle.text.specs.Fields.{Lacks, fields}
@@ -17,6 +19,10 @@ text_of (l ∷ ls) = ended l ++ text_of ls
 -- the bytes that are not read yet
 abbrev pub rest : Reader → List ℕ
 rest r = drop r.at r.text.now
+
+-- f is the fault of the text at the line after those read: it ends too early or too late, and question 16 says no
+abbrev pub WrongEnd : Reader → Fault → Type 0
+WrongEnd r f = told f ≡ file_fault 16 (r.line + 1)
 
 -- nothing of the text bs is read yet
 pub record Fresh (bs : List ℕ) (r : Reader) : Type 0 where

@@ -1,11 +1,10 @@
 // A line of a text, field by field.
 ghost use Rattle.std.specs.Prelude.{◌≡◌, ℕ, List, [], ◌∷◌, map, length, decimal, MatchResult, ◌≢◌};
 ghost use Rattle.std.specs.List.{AllByRecursion};
-ghost use Rattle.fault.specs.Told.{told, file_fault};
 ghost use Rattle.text.specs.Fields.{Small, IsName, fields};
 ghost use Rattle.text.specs.Tokens.{fields_in, left, IllFormed, Passed, Is, IsNot};
 
-use crate::fields::{before, is_name, number_in};
+use crate::fields::{is_name, number_in, place_of};
 use fault::Fault;
 
 // A field of a line, as the part of the text that it is; a number has its value too.
@@ -38,11 +37,10 @@ pub struct Line<'a> {
 fn cut<'a>(bytes: &'a [u8]) -> (&'a [u8], Option<&'a [u8]>)
     ensures { fields bytes.now ≡ result.0.now ∷ fields_in result.1 }
 {
-    let n = before(bytes, b' ');
-    if n == bytes.len() {
-        return (bytes, None);
+    match place_of(bytes, b' ') {
+        Some(n) => (&bytes[..n], Some(&bytes[n + 1..])),
+        None => (bytes, None),
     }
-    (&bytes[0..n], Some(&bytes[n + 1..]))
 }
 
 impl<'a> Line<'a> {
@@ -59,16 +57,12 @@ impl<'a> Line<'a> {
         ensures moves { Passed self.old self.new }
         ensures cases { MatchResult result
             (λ f. left self.old ≡ f.now ∷ left self.new)
-            (λ f. (told f ≡ file_fault 15 self.old.number) × (left self.old ≡ [])) }
+            (λ f. IllFormed self.old f × (left self.old ≡ [])) }
     {
-        match self.rest {
-            Some(bytes) => {
-                let (field, more) = cut(bytes);
-                self.rest = more;
-                Ok(field)
-            }
-            None => Err(Fault::IllFormedLine { line: self.number }),
-        }
+        let bytes = self.rest.ok_or(self.ill_formed())?;
+        let (field, more) = cut(bytes);
+        self.rest = more;
+        Ok(field)
     }
 
     // The next field as a token of the kind that is wanted. One step a byte of it.
@@ -76,23 +70,15 @@ impl<'a> Line<'a> {
         ensures moves { Passed self.old self.new }
         ensures cases { MatchResult result
             (λ t. (f : List ℕ) × (left self.old ≡ f ∷ left self.new) × Is want t f)
-            (λ f. (told f ≡ file_fault 15 self.old.number) × ((g : List ℕ) (more : List (List ℕ)) → left self.old ≡ g ∷ more → IsNot want g)) }
+            (λ f. IllFormed self.old f × ((g : List ℕ) (more : List (List ℕ)) → left self.old ≡ g ∷ more → IsNot want g)) }
     {
         let field = self.field()?;
-        match want {
-            Want::Name => {
-                if is_name(field) {
-                    return Ok(Token::Name(field));
-                }
-            }
-            Want::Number => {
-                if let Some(n) = number_in(field) {
-                    return Ok(Token::Number(field, n));
-                }
-            }
-            Want::Word => return Ok(Token::Word(field)),
-        }
-        Err(Fault::IllFormedLine { line: self.number })
+        let token = match want {
+            Want::Name => is_name(field).then_some(Token::Name(field)),
+            Want::Number => number_in(field).map(|n| Token::Number(field, n)),
+            Want::Word => Some(Token::Word(field)),
+        };
+        token.ok_or(self.ill_formed())
     }
 
     // The next field, which has to be a number. One step a byte of it.
@@ -100,12 +86,12 @@ impl<'a> Line<'a> {
         ensures moves { Passed self.old self.new }
         ensures cases { MatchResult result
             (λ n. Small n × (left self.old ≡ decimal n ∷ left self.new))
-            (λ f. (told f ≡ file_fault 15 self.old.number) × ((n : ℕ) (more : List (List ℕ)) → Small n → left self.old ≢ decimal n ∷ more)) }
+            (λ f. IllFormed self.old f × ((n : ℕ) (more : List (List ℕ)) → Small n → left self.old ≢ decimal n ∷ more)) }
     {
-        match self.token(Want::Number)? {
-            Token::Number(_, n) => Ok(n),
-            _ => unreachable(),
-        }
+        let Token::Number(_, n) = self.token(Want::Number)? else {
+            unreachable!();
+        };
+        Ok(n)
     }
 
     // The next field, which has to be a name. One step a byte of it.
@@ -113,12 +99,12 @@ impl<'a> Line<'a> {
         ensures moves { Passed self.old self.new }
         ensures cases { MatchResult result
             (λ f. IsName f.now × (left self.old ≡ f.now ∷ left self.new))
-            (λ f. (told f ≡ file_fault 15 self.old.number) × ((g : List ℕ) (more : List (List ℕ)) → IsName g → left self.old ≢ g ∷ more)) }
+            (λ f. IllFormed self.old f × ((g : List ℕ) (more : List (List ℕ)) → IsName g → left self.old ≢ g ∷ more)) }
     {
-        match self.token(Want::Name)? {
-            Token::Name(name) => Ok(name),
-            _ => unreachable(),
-        }
+        let Token::Name(name) = self.token(Want::Name)? else {
+            unreachable!();
+        };
+        Ok(name)
     }
 
     // The next field, whatever it holds. One step a byte of it.
@@ -126,22 +112,22 @@ impl<'a> Line<'a> {
         ensures moves { Passed self.old self.new }
         ensures cases { MatchResult result
             (λ f. left self.old ≡ f.now ∷ left self.new)
-            (λ f. (told f ≡ file_fault 15 self.old.number) × (left self.old ≡ [])) }
+            (λ f. IllFormed self.old f × (left self.old ≡ [])) }
     {
-        match self.token(Want::Word)? {
-            Token::Word(word) => Ok(word),
-            _ => unreachable(),
-        }
+        let Token::Word(word) = self.token(Want::Word)? else {
+            unreachable!();
+        };
+        Ok(word)
     }
 
     // The end of the line: no field may be left. Constant time.
     pub fn end(&self) -> Result<(), Fault>
         ensures { MatchResult result
             (λ _. left self.now ≡ [])
-            (λ f. (told f ≡ file_fault 15 self.now.number) × (left self.now ≢ [])) }
+            (λ f. IllFormed self.now f × (left self.now ≢ [])) }
     {
         match self.rest {
-            Some(_) => Err(Fault::IllFormedLine { line: self.number }),
+            Some(_) => Err(self.ill_formed()),
             None => Ok(()),
         }
     }
@@ -150,11 +136,11 @@ impl<'a> Line<'a> {
     pub fn numbers<const N: usize>(mut self) -> Result<[u32; N], Fault>
         ensures { MatchResult result
             (λ ns. (length ns ≡ N) × AllByRecursion Small ns × (left self.entry ≡ map decimal ns))
-            (λ f. (told f ≡ file_fault 15 self.entry.number) × ((ns : List ℕ) → length ns ≡ N → AllByRecursion Small ns → left self.entry ≢ map decimal ns)) }
+            (λ f. IllFormed self.entry f × ((ns : List ℕ) → length ns ≡ N → AllByRecursion Small ns → left self.entry ≢ map decimal ns)) }
     {
         let mut numbers = [0; N];
-        for i in 0..N {
-            numbers[i] = self.number()?;
+        for n in &mut numbers {
+            *n = self.number()?;
         }
         self.end()?;
         Ok(numbers)

@@ -1,10 +1,9 @@
 // One line after another.
-ghost use Rattle.std.specs.Prelude.{◌≡◌, ℕ, ◌+◌, List, [], MatchResult, ◌≢◌};
-ghost use Rattle.fault.specs.Told.{told, file_fault};
+ghost use Rattle.std.specs.Prelude.{◌≡◌, [], MatchResult, ◌≢◌};
 ghost use Rattle.text.specs.Fields.{Lacks};
-ghost use Rattle.text.specs.Lines.{Fresh, rest, Cut};
+ghost use Rattle.text.specs.Lines.{Fresh, rest, Cut, WrongEnd};
 
-use crate::fields::before;
+use crate::fields::place_of;
 use crate::line::Line;
 use crate::reader::Reader;
 use fault::Fault;
@@ -21,24 +20,27 @@ impl<'a> Reader<'a> {
         }
     }
 
+    // The fault of a text that goes wrong at its end: no more lines, or more than are wanted. Constant time.
+    fn wrong_end(&self) -> Fault
+        ensures { WrongEnd self.now result }
+    {
+        let line = self.line + 1;
+        Fault::TextEnd { line }
+    }
+
     // The next line, without its byte 10. One step a byte of it; where there is none, nothing is read.
     pub fn line(&mut self) -> Result<Line<'a>, Fault>
         ensures { MatchResult result
             (λ l. Cut self.old self.new l)
-            (λ f. (told f ≡ file_fault 16 (self.old.line + 1)) × Lacks 10 (rest self.old) × (self.new ≡ self.old)) }
+            (λ f. WrongEnd self.old f × Lacks 10 (rest self.old) × (self.new ≡ self.old)) }
     {
         let left = &self.text[self.at..];
-        let n = before(left, b'\n');
-        if n == left.len() {
-            return Err(Fault::TextEnd {
-                line: self.line + 1,
-            });
-        }
+        let n = place_of(left, b'\n').ok_or(self.wrong_end())?;
         let start = self.at;
         self.at += n + 1;
         self.line += 1;
         Ok(Line {
-            rest: Some(&left[0..n]),
+            rest: Some(&left[..n]),
             start,
             number: self.line,
         })
@@ -48,12 +50,10 @@ impl<'a> Reader<'a> {
     pub fn end(&self) -> Result<(), Fault>
         ensures { MatchResult result
             (λ _. rest self.now ≡ [])
-            (λ f. (told f ≡ file_fault 16 (self.now.line + 1)) × (rest self.now ≢ [])) }
+            (λ f. WrongEnd self.now f × (rest self.now ≢ [])) }
     {
         if self.at < self.text.len() {
-            return Err(Fault::TextEnd {
-                line: self.line + 1,
-            });
+            return Err(self.wrong_end());
         }
         Ok(())
     }

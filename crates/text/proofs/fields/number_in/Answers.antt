@@ -1,27 +1,17 @@
-use Rattle.std.proofs.Common.{arith}
-use Rattle.text.proofs.Numbers.{small, more, accepted, some, short, no_lead, digit, large}
+use Rattle.std.proofs.Common.{◌≡◌, length, get_or, arith, rules, None}
+use Rattle.std.specs.Str.{IsUtf8}
+use Rattle.text.proofs.Numbers.{utf8, parsed}
 use Rattle.text.proofs.fields.number_in.Goals as goal
 
-pub returns-then-field-eq0 : goal.returns-then-field-eq0
-returns-then-field-eq0 c = λ n is. let a = some c.args.field.now n is in let b = short c.args.field.now n is in grind arith
+pub returns-in_err-ok-in-48 : goal.returns-in_err-ok-in-48
+returns-in_err-ok-in-48 c =
+    let none : c.from_residual.result ≡ None = search rules in
+    let no : IsUtf8 c.args.field.now → ⊥ = search rules in
+    rw none (λ n is. no (utf8 c.args.field.now n is))
 
-pub returns-then-field-eq48 : goal.returns-then-field-eq48
-returns-then-field-eq48 c = λ n is. let lead = no_lead c.args.field.now n is c.if-field-eq48.true in omega (arith, c.if-several.true)
-
-pub returns-then-b-lt48 : goal.returns-then-b-lt48
-returns-then-b-lt48 c = λ n is. let a = digit c.args.field.now n is c.loop-b.b-index (omega arith) in grind arith
-
-pub overflow_mul-value : goal.overflow_mul-value
-overflow_mul-value c = omega (arith, small c.args.field.now c.loop-b.b-index c.loop-b.value (omega arith) (omega arith) c.loop-b.invariant)
-
-pub overflow_add-value : goal.overflow_add-value
-overflow_add-value c = omega (arith, small c.args.field.now c.loop-b.b-index c.loop-b.value (omega arith) (omega arith) c.loop-b.invariant)
-
-pub loop-b-preserved : goal.loop-b-preserved
-loop-b-preserved c = more c.args.field.now c.loop-b.b-index c.loop-b.value (omega arith) c.loop-b.invariant (omega arith) (omega arith)
-
-pub returns-then-value-gt-LARGEST : goal.returns-then-value-gt-LARGEST
-returns-then-value-gt-LARGEST c = λ n is. large c.args.field.now c.loop-b.b-index c.loop-b.value n (omega arith) c.loop-b.invariant (omega arith) is
-
-pub returns : goal.returns
-returns c = accepted c.args.field.now c.loop-b.b-index c.loop-b.value (omega arith) c.loop-b.invariant (omega arith) (λ z. grind arith) (omega arith)
+pub returns-in_ok-ok-in-48 : goal.returns-in_ok-ok-in-48
+returns-in_ok-ok-in-48 c =
+    let e : c.in_ok-ok-in-48.field-0.now ≡ c.args.field.now = search rules in
+    let plain : get_or c.args.field.now 0 0 ≡ 43 → ⊥ = grind arith in
+    let lead : get_or c.args.field.now 0 0 ≡ 48 → length c.args.field.now ≡ 1 = grind arith in
+    rw c.ok-in-48.ensures.value (parsed c.args.field.now c.parse.result (rw e at c.parse.ensures.value.0) plain lead)

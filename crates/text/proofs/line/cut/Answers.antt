@@ -1,9 +1,8 @@
-use Rattle.std.proofs.Common.{arith}
-use Rattle.text.proofs.Splits.{cut_last, cut_first}
+use Rattle.text.proofs.Splits.{fields_last, cut_first}
 use Rattle.text.proofs.line.cut.Goals as goal
 
-pub returns-then-n-bytes : goal.returns-then-n-bytes
-returns-then-n-bytes c = cut_last c.args.bytes.now c.before-n.result (omega arith) c.before-n.ensures.lacks
+pub returns-in-Some : goal.returns-in-Some
+returns-in-Some c = let e = c.in-Some.ensures in cut_first c.args.bytes.now c.in-Some.n e.0 e.1 e.2
 
-pub returns : goal.returns
-returns c = cut_first c.args.bytes.now c.before-n.result (omega arith) c.before-n.ensures.lacks (c.before-n.ensures.stops (omega arith))
+pub returns-in-None : goal.returns-in-None
+returns-in-None c = fields_last c.args.bytes.now c.in-None.ensures
