@@ -2,6 +2,7 @@
 -- Assumes nothing.
 use Rattle.std.proofs.Common.{◌≡◌, ℕ, ◌+◌, ◌⊎◌, List, [], ◌∷◌, ◌++◌, length, sym, refl, ap, ◌∙◌, subst, inl, inr, ⊎_elim, append_assoc, append-nil, arith, length-append}
 use Rattle.std.specs.List.{AllByRecursion}
+use Rattle.std.proofs.ByRecursion.{All-append}
 use Rattle.fault.specs.declared.Fault.{Fault}
 use Rattle.fault.specs.Told.{told, file_fault}
 use Rattle.text.specs.Fields.{Lacks}
@@ -10,7 +11,7 @@ use Rattle.text.specs.Layouts.{Layout, GoesOn, No, absent, ill_formed, too_small
 use Rattle.text.proofs.Cuts.{lacks_cut, one_cut}
 
 pub nothing_is_some : {X : Type 0} (x : X) (xs : List X) → [] ≡ x ∷ xs → ⊥
-nothing_is_some x xs e = let z : ◌≡◌ {A = ℕ} 0 1 = cc in omega arith
+nothing_is_some x xs e = cc
 
 pub nothing_is_more : {X : Type 0} (ys : List X) (x : X) (xs : List X) → [] ≡ ys ++ x ∷ xs → ⊥
 nothing_is_more [] x xs e = nothing_is_some x xs e
@@ -106,10 +107,6 @@ front_clean : (ls ms : List (List ℕ)) → Clean (ls ++ ms) → Clean ls
 front_clean [] ms h = tt
 front_clean (l ∷ ls) ms h = (h.0, front_clean ls ms h.1)
 
-both : (ls ms : List (List ℕ)) → Clean ls → Clean ms → Clean (ls ++ ms)
-both [] ms hl hm = hm
-both (l ∷ ls) ms hl hm = (hl.0, both ls ms hl.1 hm)
-
 module _ (L : Layout) (coded : Coded L) (clean : CleanLines L) where
   passed_clean : (k : ℕ) (bs : List ℕ) (f : Fault) (r : Refused L k bs f) → Clean r.passed
   passed_clean k bs f r = front_clean r.passed (r.wanted ∷ r.begins.more) (subst Clean r.begins.lines (clean r.content r.begins.good))
@@ -193,7 +190,7 @@ module _ (L : Layout) (M : L.Content → Layout) (coded : Coded L) where
       subst P p.0 (λ y gy h. let q = after c.0 c.1 y r s gc.1 gy h in (ap (λ z. (c.0, z)) q.0, q.1)) d.1 gd.1 p.1
 
   pub then_clean : CleanLines L → ((x : L.Content) → CleanLines (M x)) → CleanLines (then L M)
-  then_clean first after c g = both (L.lines c.0) ((M c.0).lines c.1) (first c.0 g.0) (after c.0 c.1 g.1)
+  then_clean first after c g = All-append (Lacks 10) (L.lines c.0) ((M c.0).lines c.1) (first c.0 g.0) (after c.0 c.1 g.1)
 
   -- a content that goes on after all lines of x goes on by its second part
   second : (x : L.Content) (p : List (List ℕ)) (l : List ℕ) (c : (then L M).Content) → L.Good x → GoesOn (then L M) (L.lines x ++ p) l c → (y : (M x).Content) × GoesOn (M x) p l y × ((M c.0).Fits c.1 → (M x).Fits y)

@@ -7,7 +7,7 @@ use Rattle.std.specs.Result.{result_ok}
 use Rattle.std.specs.Str.{IsUtf8}
 use Rattle.std.proofs.lemmas.Str.Parse.{IsNumeralModel, numerals_by_value, tells_digits, digit_at, parse_plain}
 use Rattle.std.proofs.lemmas.Str.{IsUtf8-from_ascii}
-use Rattle.std.proofs.lemmas.Fmt.{decimal-digits_value, digits_decimal, digits_value-decimal, decimal_nonempty, first_decimal, decimal_digit, IsAscii-decimal}
+use Rattle.std.proofs.lemmas.Fmt.{decimal-digits_value, digits_decimal, parse-decimal, decimal_nonempty, first_decimal, decimal_digit, IsAscii-decimal}
 use Rattle.std.proofs.lemmas.Bool.{cases_lt}
 use Rattle.text.specs.Fields.{IsNumber}
 
@@ -28,11 +28,8 @@ module _ (bs : List ℕ) (n : ℕ) (is : IsNumber n bs) where
       (λ (h : n ≤ 0). ap length (is.1 ∙ decimal_digit n (omega arith)))
       (cases_lt 0 n)
 
-  digits : AllDigits 10 bs
-  digits = subst (AllDigits 10) (sym is.1) (digits_decimal own n (wide n is.0))
-
   pub digit : (i : ℕ) → i < length bs → IsInRange 48 57 (get_or bs i 0)
-  digit i lt = digit_at bs i digits lt
+  digit i lt = digit_at bs i (subst (AllDigits 10) (sym is.1) (digits_decimal own n (wide n is.0))) lt
 
   -- the only number that begins with 0 is 0
   pub begins : ((length bs ≡ 1) × (get_or bs 0 0 ≡ 48)) ⊎ ((0 < length bs) × (49 ≤ get_or bs 0 0) × (get_or bs 0 0 ≤ 57))
@@ -51,5 +48,5 @@ parsed {E} bs (Ok v) h plain lead =
     let p = parse_plain own {E = E} 32 bs (Ok v) h plain in
     (omega (arith, p.1, p.0.2), sym (decimal-digits_value own bs p.0.0 p.0.1 lead (wide (digits_value 10 bs) p.0.2)) ∙ ap decimal (sym p.1))
 parsed {E} bs (Err e) h plain lead = λ n is.
-    let v : digits_value 10 bs ≡ n = ap (digits_value 10) is.1 ∙ digits_value-decimal own n (wide n is.0) in
-    parse_plain own {E = E} 32 bs (Err e) h plain (digits bs n is, some bs n is, omega (arith, v, is.0))
+    let r = parse-decimal {E = E} 32 n bs (Err e) is.0 (wide n is.0) is.1 h in
+    cc

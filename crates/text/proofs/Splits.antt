@@ -25,13 +25,13 @@ fields-spaced f [] hf h = ap fields (append-nil f) ∙ fields_last f hf
 fields-spaced f (g ∷ fs) hf h = fields_cut f (g ++ behind fs) hf ∙ ap (λ l. f ∷ l) (fields-spaced g fs h.0 h.1)
 
 first_some : (b : ℕ) (t : Bool) (fs : List (List ℕ)) → cond t ([] ∷ fs) (longer b fs) ≡ [] → ⊥
-first_some b true fs e = let z : ◌≡◌ {A = ℕ} 0 1 = cc in omega arith
-first_some b false [] e = let z : ◌≡◌ {A = ℕ} 0 1 = cc in omega arith
-first_some b false (f ∷ fs) e = let z : ◌≡◌ {A = ℕ} 0 1 = cc in omega arith
+first_some b true fs e = cc
+first_some b false [] e = cc
+first_some b false (f ∷ fs) e = cc
 
 -- a line has a field, if only an empty one
 pub fields_some : (s : List ℕ) → fields s ≡ [] → ⊥
-fields_some [] e = let z : ◌≡◌ {A = ℕ} 0 1 = cc in omega arith
+fields_some [] e = cc
 fields_some (b ∷ s) e = first_some b (eqb b 32) (fields s) e
 
 -- the cut as the code makes it, at n

@@ -34,7 +34,8 @@ pub struct Line<'a> {
 }
 
 // The bytes before the first space, and those after it, if there is one. One step a byte before the space.
-fn cut<'a>(bytes: &'a [u8]) -> (&'a [u8], Option<&'a [u8]>)
+#[tactic(auto, using(crate::proofs::Splits::fields_last, crate::proofs::Splits::cut_first))]
+fn cut(bytes: &[u8]) -> (&[u8], Option<&[u8]>)
     ensures { fields bytes.now ≡ result.0.now ∷ fields_in result.1 }
 {
     match place_of(bytes, b' ') {
@@ -81,6 +82,8 @@ impl<'a> Line<'a> {
         token.ok_or(self.ill_formed())
     }
 
+    // `number`, `name` and `word` stay three functions: each takes another case of `Token` apart, and gives what it holds.
+
     // The next field, which has to be a number. One step a byte of it.
     fn number(&mut self) -> Result<u32, Fault>
         ensures moves { Passed self.old self.new }
@@ -121,6 +124,7 @@ impl<'a> Line<'a> {
     }
 
     // The end of the line: no field may be left. Constant time.
+    #[tactic(auto, using(crate::proofs::Splits::fields_some))]
     pub fn end(&self) -> Result<(), Fault>
         ensures { MatchResult result
             (λ _. left self.now ≡ [])

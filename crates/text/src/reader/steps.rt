@@ -53,8 +53,9 @@ impl<'a> Reader<'a> {
             (λ f. WrongEnd self.now f × (rest self.now ≢ [])) }
     {
         if self.at < self.text.len() {
-            return Err(self.wrong_end());
+            Err(self.wrong_end())
+        } else {
+            Ok(())
         }
-        Ok(())
     }
 }
