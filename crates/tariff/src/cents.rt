@@ -16,17 +16,13 @@ impl Tariff for Cents {
 
     const NUMBERS: usize = 1;
 
-    ghost numbers = { 1 };
+    ghost NUMBERS = { 1 };
 
     ghost costs = { cents_costs };
 
     ghost lawful = { money_lawful };
 
     ghost few = { (lit≤ tt, lit≤ tt) };
-
-    fn number_count() -> usize {
-        Self::NUMBERS
-    }
 
     fn neutral() -> Money {
         Money { cents: 0 }
@@ -40,7 +36,7 @@ impl Tariff for Cents {
     }
 
     fn not_dearer(a: Money, b: Money) -> bool {
-        a.cents <= b.cents
+        a <= b
     }
 }
 

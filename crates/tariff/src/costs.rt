@@ -3,14 +3,14 @@
 ghost use Rattle.std.specs.Prelude.{◌<◌};
 
 // An amount of money, in cents.
-#[derive(Clone, Copy, PartialEq, Eq, Debug)]
+#[derive(Clone, Copy, PartialEq, Eq, PartialOrd, Ord, Debug)]
 pub struct Money {
     pub cents: u32,
     ghost fits: { cents < 4294967296 },
 }
 
-// A number of special parts, and what they cost together.
-#[derive(Clone, Copy, PartialEq, Eq, Debug)]
+// A number of special parts, and what they cost together. Ordered by the number, then by the cost.
+#[derive(Clone, Copy, PartialEq, Eq, PartialOrd, Ord, Debug)]
 pub struct Amount {
     pub count: u16,
     pub cents: u32,
@@ -18,8 +18,9 @@ pub struct Amount {
     ghost fits: { cents < 4294967296 },
 }
 
-// Special parts with their price, or more parts than are counted.
-#[derive(Clone, Copy, PartialEq, Eq, Debug)]
+// Special parts with their price, or more parts than are counted, which are above any. It is no Option, since there None
+// is below any.
+#[derive(Clone, Copy, PartialEq, Eq, PartialOrd, Ord, Debug)]
 pub enum Special {
     Parts(Amount),
     Beyond,

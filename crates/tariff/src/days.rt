@@ -13,17 +13,13 @@ impl Tariff for Days {
 
     const NUMBERS: usize = 1;
 
-    ghost numbers = { 1 };
+    ghost NUMBERS = { 1 };
 
     ghost costs = { days_costs };
 
     ghost lawful = { days_lawful };
 
     ghost few = { (lit≤ tt, lit≤ tt) };
-
-    fn number_count() -> usize {
-        Self::NUMBERS
-    }
 
     fn neutral() -> u16 {
         0

@@ -21,15 +21,18 @@ pub trait Tariff {
     // How many numbers a written price has: 1 or 2.
     const NUMBERS: usize;
 
-    // The number that `number_count` answers, as contracts speak of it.
-    ghost numbers: { ℕ };
+    // The same number, as contracts speak of it.
+    ghost NUMBERS: { ℕ };
 
     // The neutral cost, the joining and the order, as contracts speak of them.
     ghost costs: { Costs Self.Cost };
 
     // How many numbers a written price has. Constant time.
     fn number_count() -> usize
-        ensures { result ≡ numbers };
+        ensures { result ≡ NUMBERS }
+    {
+        Self::NUMBERS
+    }
 
     // The cost of nothing. Constant time.
     fn neutral() -> Self::Cost
@@ -39,7 +42,8 @@ pub trait Tariff {
     fn join(a: Self::Cost, b: Self::Cost) -> Self::Cost
         ensures { result ≡ costs.join a b };
 
-    // Whether the first cost is not dearer than the second. Constant time.
+    // Whether the first cost is not dearer than the second. Constant time. No default says `a <= b`, since that would ask
+    // each cost type for an order of its own, and each tariff for a law that it is the order of `costs`.
     fn not_dearer(a: Self::Cost, b: Self::Cost) -> bool
         ensures { result ≡ costs.le a b };
 
@@ -47,18 +51,16 @@ pub trait Tariff {
     ghost lawful: { Lawful costs };
 
     // A written price has one number or two.
-    ghost few: { (1 ≤ numbers) × (numbers ≤ 2) };
+    ghost few: { (1 ≤ NUMBERS) × (NUMBERS ≤ 2) };
 }
 
 // All costs joined in order. One step a cost.
 pub fn total<T: Tariff>(prices: &[T::Cost]) -> T::Cost
     ensures { result ≡ total T.costs prices.now }
 {
-    let mut sum = T::neutral();
-    for price in prices {
-        sum = T::join(sum, *price);
-    }
-    sum
+    prices
+        .iter()
+        .fold(T::neutral(), |sum, price| T::join(sum, *price))
 }
 
 #[cfg(test)]

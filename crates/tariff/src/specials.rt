@@ -14,7 +14,7 @@ impl Tariff for Specials {
 
     const NUMBERS: usize = 2;
 
-    ghost numbers = { 2 };
+    ghost NUMBERS = { 2 };
 
     ghost costs = { specials_costs };
 
@@ -22,20 +22,13 @@ impl Tariff for Specials {
 
     ghost few = { (lit≤ tt, lit≤ tt) };
 
-    fn number_count() -> usize {
-        Self::NUMBERS
-    }
-
     fn neutral() -> Special {
         Special::Parts(Amount { count: 0, cents: 0 })
     }
 
     // Both counts and both prices added. The cents stop at 4,294,967,295, and more than 65,535 parts are beyond.
     fn join(a: Special, b: Special) -> Special {
-        let Special::Parts(x) = a else {
-            return Special::Beyond;
-        };
-        let Special::Parts(y) = b else {
+        let (Special::Parts(x), Special::Parts(y)) = (a, b) else {
             return Special::Beyond;
         };
         match x.count.checked_add(y.count) {
@@ -49,12 +42,6 @@ impl Tariff for Specials {
 
     // By count, then by price. Beyond is dearest.
     fn not_dearer(a: Special, b: Special) -> bool {
-        let Special::Parts(y) = b else {
-            return true;
-        };
-        let Special::Parts(x) = a else {
-            return false;
-        };
-        x.count < y.count || x.count == y.count && x.cents <= y.cents
+        a <= b
     }
 }

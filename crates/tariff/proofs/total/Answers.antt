@@ -1,12 +1,13 @@
-use Rattle.std.proofs.Common.{ap, ◌∙◌, take_all, rules}
+use Rattle.std.proofs.Common.{◌≡◌, subst, rules}
+use Rattle.std.proofs.lemmas.Fn.{fold_over, slice_gives, fronts}
 use Rattle.tariff.specs.Costs.{total}
-use Rattle.tariff.proofs.Totals.{total_more}
+use Rattle.tariff.proofs.Totals.{total_push}
 use Rattle.tariff.proofs.total.Goals as goal
 
-pub loop-price-preserved : goal.loop-price-preserved
-loop-price-preserved g c =
-    let joined = rw c.loop-price.invariant at c.join-sum.ensures in
-    joined ∙ total_more g.met.T.Tariff.lawful c.args.prices.now c.loop-price.price-index _ c.loop-price-test.true (search rules)
-
 pub returns : goal.returns
-returns g c = c.loop-price.invariant ∙ ap (total g.T.Tariff.costs) (take_all _ _ c.loop-price-test.false)
+returns g c =
+    let costs = g.T.Tariff.costs in
+    subst (λ l. c.fold.result ≡ total costs l) c.iter.ensures.rest
+    (fold_over fronts (λ y. y.now) _ (λ ys sum. sum ≡ total costs ys) _
+    (λ ys a x b f' j k. let more = total_push g.met.T.Tariff.lawful ys x.now in search rules)
+    _ _ _ _ (slice_gives c.iter.result) c.neutral.ensures c.fold.ensures.ran)
