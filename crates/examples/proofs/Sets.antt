@@ -1,11 +1,11 @@
 -- A test of every full set, and what it shows.
-use Rattle.std.proofs.Common.{◌≡◌, ℕ, zero, suc, ◌<◌, Bool, true, ◌&&◌, List, [], ◌∷◌, length, get_or, ⊎_elim, arith}
-use Rattle.std.proofs.lemmas.Bool.{and_parts, cases_lt}
+use Rattle.std.proofs.Common.{◌≡◌, ℕ, zero, suc, ◌<◌, Bool, true, ◌&&◌, List, [], ◌∷◌, length, get_or, refl, arith}
+use Rattle.std.proofs.lemmas.Bool.Decides.{Decides-below_and}
 
 -- the test at every number below n
 abbrev pub every_below : ℕ → (ℕ → Bool) → Bool
 every_below zero test = true
-every_below (suc n) test = every_below n test && test n
+every_below (suc n) test = test n && every_below n test
 
 -- the test at every list with a value for each count
 abbrev pub every_set : List ℕ → (List ℕ → Bool) → Bool
@@ -13,13 +13,7 @@ every_set [] test = test []
 every_set (d ∷ ds) test = every_below d (λ x. every_set ds (λ xs. test (x ∷ xs)))
 
 below_holds : (n : ℕ) (test : ℕ → Bool) → every_below n test ≡ true → (k : ℕ) → k < n → test k ≡ true
-below_holds zero test e k h = absurd (omega arith)
-below_holds (suc n) test e k h =
-    let p = and_parts (every_below n test) (test n) e in
-    ⊎_elim
-    (λ (l : k < n). below_holds n test p.0 k l)
-    (λ l. let same : k ≡ n = omega arith in rw same p.1)
-    (cases_lt k n)
+below_holds n test = (Decides-below_and test (λ k. test k ≡ true) (λ m. every_below m test) (λ k. ((λ e. e), (λ e. e))) refl (λ _. refl) n).0
 
 pub set_holds : (ds : List ℕ) (test : List ℕ → Bool) → every_set ds test ≡ true → (xs : List ℕ) → length xs ≡ length ds → ((i : ℕ) → i < length ds → get_or xs i 0 < get_or ds i 0) → test xs ≡ true
 set_holds [] test e [] size each = e

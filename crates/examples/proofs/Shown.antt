@@ -1,8 +1,9 @@
 -- The examples are so.
-use Rattle.std.proofs.Common.{◌≡◌, ℕ, Bool, true, false, cond, List, is_some, refl, arith}
+use Rattle.std.proofs.Common.{◌≡◌, ℕ, Bool, true, List, is_some, sym, ◌∙◌, refl, arith, rules}
+use Rattle.std.specs.Bool.{beq}
+use Rattle.std.specs.Cmp.{booleans_Decides}
 use Rattle.std.specs.List.{AllByRecursion}
 use Rattle.std.proofs.ByRecursion.{All-get_or}
-use Rattle.std.proofs.lemmas.Bool.{false≢true}
 use Rattle.book.specs.Books.{FullSet, walk_of}
 use Rattle.diagram.specs.declared.BitNode.{BitNode}
 use Rattle.diagram.specs.declared.ColumnNode.{ColumnNode}
@@ -22,46 +23,13 @@ abbrev ColumnFine : ColumnNode → Type 0
 ColumnFine r = column_form.exists counts r × column_form.linked counts columns r
 
 valued : AllByRecursion FewValues counts
-valued = ((omega arith, omega arith), ((omega arith, omega arith), ((omega arith, omega arith), tt)))
+valued = search rules
 
 bits_fine : AllByRecursion BitFine bits
-bits_fine = (
-  (omega arith, ((λ h. (omega arith, omega arith)), (λ h. absurd (omega arith)))),
-  (
-    (omega arith, ((λ h. absurd (omega arith)), (λ h. (omega arith, omega arith)))),
-    (
-      (omega arith, ((λ h. absurd (omega arith)), (λ h. absurd (omega arith)))),
-      tt,
-    ),
-  ),
-)
+bits_fine = search rules
 
 columns_fine : AllByRecursion ColumnFine columns
-columns_fine = (
-  ((omega arith, omega arith), (((λ m. ((omega arith, omega arith), refl)), λ m. absurd (omega arith)), λ m. (((omega arith, omega arith), refl), omega arith))),
-  (
-    ((omega arith, omega arith), (((λ m. ((omega arith, omega arith), refl)), λ m. absurd (omega arith)), λ m. (((omega arith, omega arith), refl), omega arith))),
-    (
-      ((omega arith, omega arith), (((λ m. ((omega arith, omega arith), refl)), λ m. absurd (omega arith)), λ m. absurd (omega arith))),
-      (
-        ((omega arith, omega arith), (((λ m. ((omega arith, omega arith), refl)), λ m. absurd (omega arith)), λ m. (((omega arith, omega arith), refl), omega arith))),
-        (
-          ((omega arith, omega arith), (((λ m. ((omega arith, omega arith), refl)), λ m. absurd (omega arith)), λ m. absurd (omega arith))),
-          (
-            ((omega arith, omega arith), (((λ m. ((omega arith, omega arith), refl)), λ m. absurd (omega arith)), λ m. absurd (omega arith))),
-            (
-              ((omega arith, omega arith), (((λ m. absurd (omega arith)), λ m. refl), λ m. (((omega arith, omega arith), refl), omega arith))),
-              (
-                ((omega arith, omega arith), (((λ m. absurd (omega arith)), λ m. refl), λ m. absurd (omega arith))),
-                tt,
-              ),
-            ),
-          ),
-        ),
-      ),
-    ),
-  ),
-)
+columns_fine = search rules
 
 pub bit_well : Well bit_form counts bits 2
 bit_well =
@@ -82,24 +50,13 @@ passes xs = is_some (walk_of (bit_book counts bits 2) xs)
 abbrev reads : List ℕ → Bool
 reads xs = is_some (walk_of (column_book counts columns 2) xs)
 
--- both walks pass, or neither
-abbrev agree : List ℕ → Bool
-agree xs = cond (passes xs) (reads xs) (cond (reads xs) false true)
-
-all_agree : every_set counts agree ≡ true
+-- both walks pass, or neither, for every full set
+all_agree : every_set counts (λ xs. beq (passes xs) (reads xs)) ≡ true
 all_agree = refl
 
-agrees : (xs : List ℕ) → FullSet (bit_book counts bits 2) xs → agree xs ≡ true
-agrees xs full = set_holds counts agree all_agree xs full.size full.each
-
-one_way : (a b : Bool) → cond a b (cond b false true) ≡ true → a ≡ true → b ≡ true
-one_way true b e h = e
-one_way false b e h = absurd (false≢true h)
-
-other_way : (a b : Bool) → cond a b (cond b false true) ≡ true → b ≡ true → a ≡ true
-other_way true b e h = refl
-other_way false true e h = absurd (false≢true e)
-other_way false false e h = h
+agree : (xs : List ℕ) → FullSet (bit_book counts bits 2) xs → passes xs ≡ reads xs
+agree xs full =
+    (booleans_Decides (passes xs) (reads xs)).0 (set_holds counts (λ ys. beq (passes ys) (reads ys)) all_agree xs full.size full.each)
 
 -- a full set of one book is one of the other
 pub full_column : (xs : List ℕ) → FullSet (bit_book counts bits 2) xs → FullSet (column_book counts columns 2) xs
@@ -108,9 +65,9 @@ full_column xs full = record { size = full.size; each = full.each }
 pub column_permits : (xs : List ℕ) → FullSet (bit_book counts bits 2) xs → Reaches bits (bit_of counts xs) 2 → Reads columns 2 xs
 column_permits xs full r =
     ((column_laws counts columns 2 column_well).decided xs (full_column xs full)).0
-    (one_way (passes xs) (reads xs) (agrees xs full) (((bit_laws counts bits 2 bit_well).decided xs full).1 r))
+    (sym (agree xs full) ∙ ((bit_laws counts bits 2 bit_well).decided xs full).1 r)
 
 pub bit_permits : (xs : List ℕ) → FullSet (bit_book counts bits 2) xs → Reads columns 2 xs → Reaches bits (bit_of counts xs) 2
 bit_permits xs full r =
     ((bit_laws counts bits 2 bit_well).decided xs full).0
-    (other_way (passes xs) (reads xs) (agrees xs full) (((column_laws counts columns 2 column_well).decided xs (full_column xs full)).1 r))
+    (agree xs full ∙ ((column_laws counts columns 2 column_well).decided xs (full_column xs full)).1 r)

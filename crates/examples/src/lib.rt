@@ -8,73 +8,31 @@ use product::Example;
 
 pub mod product;
 
-const BITS: [BitNode; 3] = [
-    BitNode {
-        bit: 0,
-        low: 3,
-        high: 1,
-    },
-    BitNode {
-        bit: 1,
-        low: 1,
-        high: 4,
-    },
-    BitNode {
-        bit: 2,
-        low: 1,
-        high: 0,
-    },
-];
+// A table of bit nodes, each by its bit, low link and high link.
+macro_rules! bit_nodes {
+    ($(($bit:literal, $low:literal, $high:literal)),*) => {
+        [$(BitNode { bit: $bit, low: $low, high: $high }),*]
+    };
+}
 
-const COLUMNS: [ColumnNode; 8] = [
-    ColumnNode {
-        column: 0,
-        value: 0,
-        high: 5,
-        low: 3,
-    },
-    ColumnNode {
-        column: 0,
-        value: 1,
-        high: 5,
-        low: 4,
-    },
-    ColumnNode {
-        column: 0,
-        value: 2,
-        high: 7,
-        low: 0,
-    },
-    ColumnNode {
-        column: 1,
-        value: 0,
-        high: 8,
-        low: 6,
-    },
-    ColumnNode {
-        column: 1,
-        value: 1,
-        high: 8,
-        low: 0,
-    },
-    ColumnNode {
-        column: 1,
-        value: 0,
-        high: 8,
-        low: 0,
-    },
-    ColumnNode {
-        column: 2,
-        value: 0,
-        high: 1,
-        low: 9,
-    },
-    ColumnNode {
-        column: 2,
-        value: 1,
-        high: 1,
-        low: 0,
-    },
+// A table of column nodes, each by its column, value, high link and low link.
+macro_rules! column_nodes {
+    ($(($column:literal, $value:literal, $high:literal, $low:literal)),*) => {
+        [$(ColumnNode { column: $column, value: $value, high: $high, low: $low }),*]
+    };
+}
+
+const BITS: [BitNode; 3] = bit_nodes![(0, 3, 1), (1, 1, 4), (2, 1, 0)];
+
+const COLUMNS: [ColumnNode; 8] = column_nodes![
+    (0, 0, 5, 3),
+    (0, 1, 5, 4),
+    (0, 2, 7, 0),
+    (1, 0, 8, 6),
+    (1, 1, 8, 0),
+    (1, 0, 8, 0),
+    (2, 0, 1, 9),
+    (2, 1, 1, 0)
 ];
 
 // The product of the examples; what is proved of it, and of the costs in the examples, is the statement `Starred`.
