@@ -1,26 +1,16 @@
 // Catalogues that are accepted, and what then stands in the tables.
-use crate::reading::{EXAMPLE, NO_BIT, NO_CALL, NO_COLUMN, NO_FEATURE, read_in, refused};
+use crate::reading::{
+    EXAMPLE, NO_BIT, NO_CALL, NO_COLUMN, NO_FEATURE, NO_PRICE, read_in, read_into, refused,
+};
 use catalogue::entries::{Call, Contents, Feature, Kind};
-use catalogue::whole::read;
 use diagram::{BitNode, ColumnNode};
 use std::test::Fail;
 
 // The example, into tables that have one entry more than it needs.
 #[test]
 fn example(rt: HostRuntime) -> Result<(), Fail> {
-    let mut features = [NO_FEATURE; 4];
-    let mut bits = [NO_BIT; 4];
-    let mut columns = [NO_COLUMN; 1];
-    let mut prices = [77; 8];
-    let mut calls = [NO_CALL; 4];
-    let contents = read(
-        EXAMPLE,
-        &mut features,
-        &mut bits,
-        &mut columns,
-        &mut prices,
-        &mut calls,
-    )?;
+    let (answer, tables) = read_into(EXAMPLE, [4, 4, 1, 8, 4]);
+    let contents = answer?;
     assert_eq!(rt;
         contents,
         Contents {
@@ -32,24 +22,27 @@ fn example(rt: HostRuntime) -> Result<(), Fail> {
             calls: 3,
         }
     );
-    assert_eq!(rt; features[1], feature(11, 6, 2));
-    assert_eq!(rt; features[3], NO_FEATURE);
-    assert_eq!(rt; features[1].name(EXAMPLE), Some(b"finish".as_slice()));
-    assert_eq!(rt; features[2].name(EXAMPLE), Some(b"card".as_slice()));
-    assert_eq!(rt; features[3].name(EXAMPLE), None);
-    assert_eq!(rt; bits[1], bit(1, 1, 4));
-    assert_eq!(rt; bits[3], NO_BIT);
-    assert_eq!(rt; columns[0], NO_COLUMN);
-    assert_eq!(rt; prices, [900, 1100, 1500, 0, 300, 0, 600, 77]);
-    assert_eq!(rt; calls[0], Call::Ceiling { cents: 1500 });
+    assert_eq!(rt; tables.features[1], feature(11, 6, 2));
+    assert_eq!(rt; tables.features[3], NO_FEATURE);
     assert_eq!(rt;
-        calls[2],
+        tables.features[1].name(EXAMPLE),
+        Some(b"finish".as_slice())
+    );
+    assert_eq!(rt; tables.features[2].name(EXAMPLE), Some(b"card".as_slice()));
+    assert_eq!(rt; tables.features[3].name(EXAMPLE), None);
+    assert_eq!(rt; tables.bits[1], bit(1, 1, 4));
+    assert_eq!(rt; tables.bits[3], NO_BIT);
+    assert_eq!(rt; tables.columns[0], NO_COLUMN);
+    assert_eq!(rt; tables.prices, [900, 1100, 1500, 0, 300, 0, 600, NO_PRICE]);
+    assert_eq!(rt; tables.calls[0], Call::Ceiling { cents: 1500 });
+    assert_eq!(rt;
+        tables.calls[2],
         Call::Choose {
             feature: 2,
             value: 1,
         }
     );
-    assert_eq!(rt; calls[3], NO_CALL);
+    assert_eq!(rt; tables.calls[3], NO_CALL);
     Ok(())
 }
 
@@ -70,15 +63,15 @@ fn bit(bit: u32, low: u32, high: u32) -> BitNode {
 fn edges(rt: HostRuntime) -> Result<(), Fail> {
     let text =
         b"B\n2\nabcdefghij0123456789 4294967295\n7 0\n0\n1\n4294967295\n1\n4294967295\n1\nceiling 4294967295\n";
-    let contents = read_in(text, 2, 0, 1, 1)?;
+    let contents = read_in(text, [2, 0, 0, 1, 1])?;
     assert_eq!(rt; contents.start, 4294967295);
     assert_eq!(rt; contents.features, 2);
     assert_eq!(rt;
-        read_in(b"B\n1\n- 0\n0\n1\n0\n0\n0\n", 1, 0, 0, 0)?.features,
+        read_in(b"B\n1\n- 0\n0\n1\n0\n0\n0\n", [1, 0, 0, 0, 0])?.features,
         1
     );
     assert_eq!(rt;
-        read_in(b"C\n0\n0\n1\n0\n0\n0\n", 0, 0, 0, 0)?.kind,
+        read_in(b"C\n0\n0\n1\n0\n0\n0\n", [0; 5])?.kind,
         Kind::Column
     );
     Ok(())
@@ -87,25 +80,14 @@ fn edges(rt: HostRuntime) -> Result<(), Fail> {
 // A column catalogue leaves the table of bit records alone; every kind of call.
 #[test]
 fn columns(rt: HostRuntime) -> Result<(), Fail> {
-    let mut features = [NO_FEATURE; 0];
-    let mut bits = [NO_BIT; 1];
-    let mut columns = [NO_COLUMN; 2];
-    let mut prices = [77; 0];
-    let mut calls = [NO_CALL; 4];
     let text = b"C\n0\n1\n1 2 3 4\n1\n2\n0\n4\nchoose 5 6\nback 7\nceiling 8\nlift\n";
-    let contents = read(
-        text,
-        &mut features,
-        &mut bits,
-        &mut columns,
-        &mut prices,
-        &mut calls,
-    )?;
+    let (answer, tables) = read_into(text, [0, 1, 2, 0, 4]);
+    let contents = answer?;
     assert_eq!(rt; contents.kind, Kind::Column);
     assert_eq!(rt; contents.records, 1);
-    assert_eq!(rt; bits[0], NO_BIT);
+    assert_eq!(rt; tables.bits[0], NO_BIT);
     assert_eq!(rt;
-        columns[0],
+        tables.columns[0],
         ColumnNode {
             column: 1,
             value: 2,
@@ -113,9 +95,9 @@ fn columns(rt: HostRuntime) -> Result<(), Fail> {
             low: 4,
         }
     );
-    assert_eq!(rt; columns[1], NO_COLUMN);
+    assert_eq!(rt; tables.columns[1], NO_COLUMN);
     assert_eq!(rt;
-        calls,
+        &tables.calls[..4],
         [
             Call::Choose {
                 feature: 5,
@@ -125,57 +107,54 @@ fn columns(rt: HostRuntime) -> Result<(), Fail> {
             Call::Ceiling { cents: 8 },
             Call::Lift,
         ]
+        .as_slice()
     );
     Ok(())
+}
+
+// The number of the line that a text stops in.
+fn lines(text: &[u8]) -> usize {
+    text.split(|b| *b == b'\n').count()
 }
 
 // The example cut after any of its bytes is refused at the line where it stops.
 #[test]
 fn cut(rt: HostRuntime) -> Result<(), Fail> {
-    let mut line = 1;
-    for (i, b) in EXAMPLE.iter().enumerate() {
-        refused(&rt, read_in(&EXAMPLE[0..i], 8, 8, 8, 8), 16, line)?;
-        if *b == b'\n' && line < 30 {
-            line += 1;
-        }
+    for i in 0..EXAMPLE.len() {
+        let front = &EXAMPLE[..i];
+        refused(&rt, read_in(front, [8; 5]), 16, lines(front))?;
     }
-    assert_eq!(rt; line, 24);
+    assert_eq!(rt; lines(EXAMPLE), 24);
     Ok(())
 }
 
 // Tables that the example fills to the last entry, and one entry too small.
 #[test]
 fn rooms(rt: HostRuntime) -> Result<(), Fail> {
-    assert!(rt; read_in(EXAMPLE, 3, 3, 7, 3).is_ok());
-    refused(&rt, read_in(EXAMPLE, 2, 3, 7, 3), 17, 2)?;
-    refused(&rt, read_in(EXAMPLE, 3, 2, 7, 3), 17, 6)?;
-    refused(&rt, read_in(EXAMPLE, 3, 3, 6, 3), 17, 12)?;
-    refused(&rt, read_in(EXAMPLE, 3, 3, 7, 2), 17, 20)
+    assert!(rt; read_in(EXAMPLE, [3, 3, 3, 7, 3]).is_ok());
+    refused(&rt, read_in(EXAMPLE, [2, 3, 3, 7, 3]), 17, 2)?;
+    refused(&rt, read_in(EXAMPLE, [3, 2, 2, 7, 3]), 17, 6)?;
+    refused(&rt, read_in(EXAMPLE, [3, 3, 3, 6, 3]), 17, 12)?;
+    refused(&rt, read_in(EXAMPLE, [3, 3, 3, 7, 2]), 17, 20)
 }
 
 // What was read before a refusal stays, and nothing later is written.
 #[test]
 fn stays(rt: HostRuntime) -> Result<(), Fail> {
-    let mut features = [NO_FEATURE; 2];
-    let mut bits = [NO_BIT; 3];
-    let mut columns = [NO_COLUMN; 1];
-    let mut prices = [77; 1];
-    let mut calls = [NO_CALL; 1];
     let text = b"B\n1\na 5\n3\n1 2 3\n4 5 6\n7 8\n1\n2\n1\n9\n0\n";
-    let answer = read(
-        text,
-        &mut features,
-        &mut bits,
-        &mut columns,
-        &mut prices,
-        &mut calls,
-    );
+    let (answer, tables) = read_into(text, [2, 3, 1, 1, 1]);
     refused(&rt, answer, 15, 7)?;
-    assert_eq!(rt; features, [feature(4, 1, 5), NO_FEATURE]);
-    assert_eq!(rt; bits, [bit(1, 2, 3), bit(4, 5, 6), NO_BIT]);
-    assert_eq!(rt; columns[0], NO_COLUMN);
-    assert_eq!(rt; prices[0], 77);
-    assert_eq!(rt; calls[0], NO_CALL);
+    assert_eq!(rt;
+        &tables.features[..2],
+        [feature(4, 1, 5), NO_FEATURE].as_slice()
+    );
+    assert_eq!(rt;
+        &tables.bits[..3],
+        [bit(1, 2, 3), bit(4, 5, 6), NO_BIT].as_slice()
+    );
+    assert_eq!(rt; tables.columns[0], NO_COLUMN);
+    assert_eq!(rt; tables.prices[0], NO_PRICE);
+    assert_eq!(rt; tables.calls[0], NO_CALL);
     Ok(())
 }
 

@@ -25,37 +25,49 @@ pub const NO_COLUMN: ColumnNode = ColumnNode {
     low: 77,
 };
 
+pub const NO_PRICE: u32 = 77;
+
 pub const NO_CALL: Call = Call::Back { feature: 77 };
 
 // The example: three features, three bit records, seven prices, three calls.
 pub const EXAMPLE: &[u8] =
     b"B\n3\nsize 3\nfinish 2\ncard 2\n3\n0 3 1\n1 1 4\n2 1 0\n1\n2\n7\n900\n1100\n1500\n0\n300\n0\n600\n3\nceiling 1500\nchoose 0 2\nchoose 2 1\n";
 
-// Reads into tables with room for so many features, records, prices and calls, at most eight each.
-pub(crate) fn read_in(
-    text: &[u8],
-    features: usize,
-    records: usize,
-    prices: usize,
-    calls: usize,
-) -> Result<Contents, Fault> {
-    let features = features.min(8);
-    let records = records.min(8);
-    let prices = prices.min(8);
-    let calls = calls.min(8);
-    let mut feature_table = [NO_FEATURE; 8];
-    let mut bit_table = [NO_BIT; 8];
-    let mut column_table = [NO_COLUMN; 8];
-    let mut price_table = [77; 8];
-    let mut call_table = [NO_CALL; 8];
-    read(
+// Tables of eight entries each.
+#[derive(Drop)]
+pub(crate) struct Tables {
+    pub(crate) features: [Feature; 8],
+    pub(crate) bits: [BitNode; 8],
+    pub(crate) columns: [ColumnNode; 8],
+    pub(crate) prices: [u32; 8],
+    pub(crate) calls: [Call; 8],
+}
+
+// Reads into new tables of which so many entries are lent, at most eight of each, in the order of the fields. Gives the
+// answer, and the tables.
+pub(crate) fn read_into(text: &[u8], rooms: [usize; 5]) -> (Result<Contents, Fault>, Tables) {
+    let mut tables = Tables {
+        features: [NO_FEATURE; 8],
+        bits: [NO_BIT; 8],
+        columns: [NO_COLUMN; 8],
+        prices: [NO_PRICE; 8],
+        calls: [NO_CALL; 8],
+    };
+    let [features, bits, columns, prices, calls] = rooms;
+    let answer = read(
         text,
-        &mut feature_table[0..features],
-        &mut bit_table[0..records],
-        &mut column_table[0..records],
-        &mut price_table[0..prices],
-        &mut call_table[0..calls],
-    )
+        &mut tables.features[..features.min(8)],
+        &mut tables.bits[..bits.min(8)],
+        &mut tables.columns[..columns.min(8)],
+        &mut tables.prices[..prices.min(8)],
+        &mut tables.calls[..calls.min(8)],
+    );
+    (answer, tables)
+}
+
+// The answer alone.
+pub(crate) fn read_in(text: &[u8], rooms: [usize; 5]) -> Result<Contents, Fault> {
+    read_into(text, rooms).0
 }
 
 // Holds an answer to a refusal with this number and line, and with place 0.
@@ -65,13 +77,11 @@ pub(crate) fn refused(
     number: u32,
     line: usize,
 ) -> Result<(), Fail> {
-    match answer {
-        Ok(_) => Err(Fail::new("accepted")),
-        Err(fault) => {
-            assert_eq!(rt; fault.number(), number);
-            assert_eq!(rt; fault.line(), line);
-            assert_eq!(rt; fault.place(), 0);
-            Ok(())
-        }
-    }
+    let Err(fault) = answer else {
+        return Err(Fail::new("accepted"));
+    };
+    assert_eq!(rt; fault.number(), number);
+    assert_eq!(rt; fault.line(), line);
+    assert_eq!(rt; fault.place(), 0);
+    Ok(())
 }

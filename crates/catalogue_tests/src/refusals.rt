@@ -3,13 +3,13 @@ use crate::reading::{read_in, refused};
 use std::process::Abort;
 use std::test::Fail;
 
-// A text, and the number and the line of the fault that it has to have with tables of two entries each.
+// A text, and the number and the line of the fault that it has to have with tables of two entries each. It is a tuple and
+// no struct, so that each case is one line.
 type Case = (&'static [u8], u32, usize);
 
 fn hold(rt: &impl Abort, cases: &[Case]) -> Result<(), Fail> {
-    for case in cases {
-        let (text, number, line) = *case;
-        refused(rt, read_in(text, 2, 2, 2, 2), number, line)?;
+    for &(text, number, line) in cases {
+        refused(rt, read_in(text, [2; 5]), number, line)?;
     }
     Ok(())
 }
