@@ -1,5 +1,5 @@
 -- A kind of cost, the laws that it obeys, and the cost of a list. Joining need not commute: the order of a list counts.
-use Rattle.std.specs.Prelude.{◌≡◌, Bool, T, ◌⊎◌, List, [], ◌∷◌}
+use Rattle.std.specs.Prelude.{◌≡◌, Bool, IsTrue, ◌⊎◌, List, [], ◌∷◌}
 
 pub record Costs (C : Type 0) : Type 0 where
   -- the cost of nothing
@@ -15,12 +15,12 @@ pub record Lawful {C : Type 0} (k : Costs C) : Type 0 where
   pub left : (a : C) → k.join k.neutral a ≡ a
   pub right : (a : C) → k.join a k.neutral ≡ a
   -- any two costs compare, and neither is dearer only where they are one cost
-  pub total : (a b : C) → T (k.le a b) ⊎ T (k.le b a)
-  pub trans : (a b c : C) → T (k.le a b) → T (k.le b c) → T (k.le a c)
-  pub antisym : (a b : C) → T (k.le a b) → T (k.le b a) → a ≡ b
+  pub total : (a b : C) → IsTrue (k.le a b) ⊎ IsTrue (k.le b a)
+  pub trans : (a b c : C) → IsTrue (k.le a b) → IsTrue (k.le b c) → IsTrue (k.le a c)
+  pub antisym : (a b : C) → IsTrue (k.le a b) → IsTrue (k.le b a) → a ≡ b
   -- a part that is not dearer, joined on either side, gives a whole that is not dearer
-  pub mono_left : (a b c : C) → T (k.le a b) → T (k.le (k.join c a) (k.join c b))
-  pub mono_right : (a b c : C) → T (k.le a b) → T (k.le (k.join a c) (k.join b c))
+  pub mono_left : (a b c : C) → IsTrue (k.le a b) → IsTrue (k.le (k.join c a) (k.join c b))
+  pub mono_right : (a b c : C) → IsTrue (k.le a b) → IsTrue (k.le (k.join a c) (k.join b c))
 
 -- the costs of a list joined in order
 abbrev pub total : {C : Type 0} → Costs C → List C → C

@@ -1,6 +1,6 @@
 -- The laws of special parts.
-use Rattle.std.specs.Prelude.{◌≡◌, ℕ, ◌+◌, ◌<◌, ◌≤◌, min, Bool, true, false, T, ◌⊎◌, refl}
-use Rattle.std.proofs.Common.{sym, ap, subst, inl, inr, ⊎_elim, arith}
+use Rattle.std.specs.Prelude.{◌≡◌, ℕ, ◌+◌, ◌<◌, ◌≤◌, min, IsTrue, ◌⊎◌, refl}
+use Rattle.std.proofs.Common.{ap, inl, inr, ⊎_elim, arith}
 use mathlib.Core.HLevel.{is_prop→PathP}
 use Rattle.std.proofs.Math.Bridge.{le_prop}
 use Rattle.std.proofs.lemmas.Bool.{cases_lt}
@@ -62,27 +62,17 @@ small Beyond = inr (refl, refl)
 abbrev Under : Special → Special → Type 0
 Under x y = (num x < num y) ⊎ ((num x ≡ num y) × (price x ≤ price y))
 
-under_from : (x y : Special) → count_then_price x y ≡ true → Under x y
-under_from (Parts a) (Parts b) h = grind (arith, nat_tests)
-under_from (Parts a) Beyond h = inl a.few
-under_from Beyond (Parts b) h = grind (arith, nat_tests)
-under_from Beyond Beyond h = inr (refl, omega arith)
+under : (x y : Special) → IsTrue (count_then_price x y) → Under x y
+under (Parts a) (Parts b) h = grind (arith, nat_tests)
+under (Parts a) Beyond h = inl a.few
+under Beyond (Parts b) h = grind (arith, nat_tests)
+under Beyond Beyond h = inr (refl, omega arith)
 
-known : (b : Bool) → T b → b ≡ true
-known true h = refl
-known false h = absurd h
-
-under : (x y : Special) → T (count_then_price x y) → Under x y
-under x y h = under_from x y (known (count_then_price x y) h)
-
-within_from : (x y : Special) → Under x y → count_then_price x y ≡ true
-within_from (Parts a) (Parts b) h = grind (arith, nat_tests)
-within_from (Parts a) Beyond h = refl
-within_from Beyond (Parts b) h = absurd (grind (arith, b.few))
-within_from Beyond Beyond h = refl
-
-within : (x y : Special) → Under x y → T (count_then_price x y)
-within x y h = subst T (sym (within_from x y h)) tt
+within : (x y : Special) → Under x y → IsTrue (count_then_price x y)
+within (Parts a) (Parts b) h = grind (arith, nat_tests)
+within (Parts a) Beyond h = refl
+within Beyond (Parts b) h = absurd (grind (arith, b.few))
+within Beyond Beyond h = refl
 
 lex_total : (n m c d : ℕ) → ((n < m) ⊎ ((n ≡ m) × (c ≤ d))) ⊎ ((m < n) ⊎ ((m ≡ n) × (d ≤ c)))
 lex_total n m c d = grind arith
