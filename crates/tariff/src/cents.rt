@@ -1,5 +1,5 @@
 // Prices in cents, which add up and stop at the largest number.
-ghost use Rattle.std.specs.Prelude.{◌≡◌, ◌<◌, ◌≤◌, true, Decides};
+ghost use Rattle.std.specs.Prelude.{◌≡◌, ◌<◌, ◌≤◌, ◌↔◌, IsTrue};
 ghost use Rattle.tariff.specs.Money.{cents_costs};
 ghost use Rattle.tariff.specs.TrueSums.{true_sum};
 ghost use Rattle.tariff.specs.MoneyLaws.{money_lawful};
@@ -43,8 +43,8 @@ impl Tariff for Cents {
 // Whether the prices, joined, are within the ceiling. Below the largest ceiling that says of the true sum, however
 // large it is, whether it is within the ceiling; the largest ceiling holds any prices. One step a price.
 pub fn within_ceiling(prices: &[Money], ceiling: Money) -> bool
-    ensures lower { ceiling.cents < 4294967295 → Decides result (true_sum prices.now ≤ ceiling.cents) }
-    ensures largest { ceiling.cents ≡ 4294967295 → result ≡ true }
+    ensures lower { ceiling.cents < 4294967295 → (IsTrue result ↔ (true_sum prices.now ≤ ceiling.cents)) }
+    ensures largest { ceiling.cents ≡ 4294967295 → IsTrue result }
 {
     Cents::not_dearer(total::<Cents>(prices), ceiling)
 }

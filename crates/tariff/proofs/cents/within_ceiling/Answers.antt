@@ -1,9 +1,7 @@
-use Rattle.tariff.proofs.StoppedSums.{tests_true_sum, holds_all}
+use Rattle.std.proofs.Common.{arith}
+use Rattle.std.proofs.lemmas.Bool.Decides.{nat_tests}
+use Rattle.tariff.proofs.StoppedSums.{total_stops}
 use Rattle.tariff.proofs.cents.within_ceiling.Goals as goal
 
-pub returns : goal.returns
-returns c =
-    record {
-      lower = tests_true_sum c.total.result c.args.ceiling _ c.not_dearer.ensures c.args.prices.now c.total.ensures;
-      largest = holds_all c.total.result c.args.ceiling _ c.not_dearer.ensures;
-    }
+pub returns-clause-lower : goal.returns-clause-lower
+returns-clause-lower c = grind (arith, nat_tests, total_stops c.args.prices.now)
