@@ -1,3 +1,4 @@
+pub mod Exits
 pub mod Numbers
 pub mod Words
 pub mod Lines

@@ -15,8 +15,7 @@ pub(crate) fn entry<R: Row>(reader: &mut Reader<'_>) -> Result<R, Fault>
         (λ e. Entered R.form reader.old reader.new e)
         (λ f. Refused (line_layout R.form) reader.old.line (rest reader.old) f) }
 {
-    let line = reader.line()?;
-    R::row(line)
+    R::row(reader.line()?)
 }
 
 // The count of a section whose table has room for so many entries.
@@ -25,6 +24,7 @@ fn count(reader: &mut Reader<'_>, room: usize) -> Result<usize, Fault>
         (λ n. Counted room reader.old reader.new n)
         (λ f. Refused (line_layout number_form) reader.old.line (rest reader.old) f ⊎ Crowded room reader.old f) }
 {
+    // `as`, since there is no `From<u32>` for `usize`.
     let n = entry::<u32>(reader)? as usize;
     if n > room {
         return Err(Fault::TableTooSmall { line: reader.line });

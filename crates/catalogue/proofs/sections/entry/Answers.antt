@@ -1,12 +1,12 @@
-use Rattle.std.proofs.lemmas.Result.{err_from_is_err_and, MatchResult-weaker}
+use Rattle.std.proofs.lemmas.Result.{MatchResult-weaker}
+use Rattle.catalogue.proofs.Exits.{passed_on}
 use Rattle.catalogue.proofs.Lines.{absent, line_refused, entered, not_entered}
 use Rattle.catalogue.proofs.sections.entry.Goals as goal
 
 pub returns-in_err-line : goal.returns-in_err-line
 returns-in_err-line g c =
     let found = c.in_err-line.ensures in
-    let p = err_from_is_err_and c.from_residual.result c.from_residual.ensures.1 in
-    rw (p.1, p.2) (line_refused g.R.Row.form g.met.R.Row.lawful _ _ _ (record { number = 16; broken = absent found.1; is = found.0 }))
+    rw (passed_on _ _ c.from_residual.ensures) (line_refused g.R.Row.form g.met.R.Row.lawful _ _ _ (record { number = 16; broken = absent found.1; is = found.0 }))
 
 pub returns : goal.returns
 returns g c =

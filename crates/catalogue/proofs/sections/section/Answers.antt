@@ -1,20 +1,18 @@
-use Rattle.std.proofs.Common.{◌≡◌, ◌<◌, ◌≤◌, subst, arith, length, take, drop, ◌++◌, set, get_or, List}
+use Rattle.std.proofs.Common.{arith}
 use Rattle.std.proofs.lemmas.List.{length-take, set-get_or}
-use Rattle.std.proofs.lemmas.Result.{err_from_is_err_and}
+use Rattle.catalogue.proofs.Exits.{passed_on}
 use Rattle.catalogue.proofs.Filled.{Rows, rows_more, rows_within, section_all, counts_not, rows_not}
 use Rattle.catalogue.proofs.sections.section.Goals as goal
 
 pub returns-in_err-n : goal.returns-in_err-n
 returns-in_err-n g c =
-    let p = err_from_is_err_and c.from_residual.result c.from_residual.ensures.1 in
-    rw (p.1, p.2) (counts_not g.R.Row.form g.met.R.Row.lawful _ _ _ c.in_err-n.ensures)
+    rw (passed_on c.from_residual.result c.in_err-n.field-0.0 c.from_residual.ensures) (counts_not g.R.Row.form g.met.R.Row.lawful _ _ _ c.in_err-n.ensures)
 
 pub returns-in_err-slot : goal.returns-in_err-slot
 returns-in_err-slot g c =
-    let p = err_from_is_err_and c.from_residual-in_err-slot.result c.from_residual-in_err-slot.ensures.1 in
     let fits = c.in_ok-n.ensures.fits in
     let size = length-take c.in_ok-n.n c.args.table.now in
-    rw (p.1, p.2, set-get_or) (rows_not g.R.Row.form g.met.R.Row.lawful _ _ _ _ _ _ _ _ c.in_ok-n.ensures (rows_within g.R.Row.form g.met.R.Row.lawful _ _ _ _ _ _ (omega arith) fits c.loop-slot.invariant) (omega arith) c.in_err-slot.ensures)
+    rw (passed_on c.from_residual-in_err-slot.result c.in_err-slot.field-0.0 c.from_residual-in_err-slot.ensures, set-get_or) (rows_not g.R.Row.form g.met.R.Row.lawful _ _ _ _ _ _ _ _ c.in_ok-n.ensures (rows_within g.R.Row.form g.met.R.Row.lawful c.count.new.reader c.loop-slot.reader c.args.table.now c.loop-slot.slot-items c.in_ok-n.n c.loop-slot.slot-index (omega arith) fits c.loop-slot.invariant) (omega arith) c.in_err-slot.ensures)
 
 pub loop-slot-preserved : goal.loop-slot-preserved
 loop-slot-preserved g c =
@@ -24,5 +22,5 @@ pub returns : goal.returns
 returns g c =
     let fits = c.in_ok-n.ensures.fits in
     let size = length-take c.in_ok-n.n c.args.table.now in
-    section_all g.R.Row.form g.met.R.Row.lawful _ _ _ _ _ _ _ c.in_ok-n.ensures (omega arith)
-    (rows_within g.R.Row.form g.met.R.Row.lawful _ _ _ _ _ _ (omega arith) fits c.loop-slot.invariant)
+    section_all g.R.Row.form g.met.R.Row.lawful c.args.reader.now c.count.new.reader c.loop-slot.reader c.args.table.now _ c.in_ok-n.n c.loop-slot.slot-index c.in_ok-n.ensures (omega arith)
+    (rows_within g.R.Row.form g.met.R.Row.lawful c.count.new.reader c.loop-slot.reader c.args.table.now c.loop-slot.slot-items c.in_ok-n.n c.loop-slot.slot-index (omega arith) fits c.loop-slot.invariant)

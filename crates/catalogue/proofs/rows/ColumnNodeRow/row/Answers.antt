@@ -1,13 +1,12 @@
 use Rattle.std.proofs.Common.{refl}
-use Rattle.std.proofs.lemmas.Result.{err_from_is_err_and}
+use Rattle.catalogue.proofs.Exits.{passed_on}
 use Rattle.catalogue.specs.Content.{column_numbers}
 use Rattle.catalogue.proofs.Numbers.{said, unsaid}
 use Rattle.catalogue.proofs.rows.ColumnNodeRow.row.Goals as goal
 
 pub returns-in_err-column : goal.returns-in_err-column
 returns-in_err-column c =
-    let p = err_from_is_err_and c.from_residual.result c.from_residual.ensures.1 in
-    rw (p.1, p.2) (unsaid column_numbers 4 _ _ c.in_err-column.ensures (λ x. refl))
+    rw (passed_on _ _ c.from_residual.ensures) (unsaid column_numbers 4 _ _ c.in_err-column.ensures (λ x. refl))
 
 pub returns : goal.returns
 returns c = said column_numbers 4 _ _ _ c.in_ok-column.ensures refl
