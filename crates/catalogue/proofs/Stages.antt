@@ -249,6 +249,19 @@ module _ (r : Tables) (fs : List Feature) (a : Reader) (bits : List BitNode) (co
       subst (λ bs. Stops (records_part r Column) a.line (rest a) (tables r fs r.bits r.columns) (tables r fs bs columns) f) (sym h.1)
       (section_stops column_form (λ xs. xs) (λ xs. refl) column_slot a (tables r fs r.bits r.columns) columns (own_entries column_form.Good column_form.fields a.at) f h.0)
 
+-- what the match on the kind leaves
+pub bits_recorded : (k : Kind) (a b : Reader) (bits bits' : List BitNode) (columns : List ColumnNode) (n : ℕ) → k ≡ Bit → Section bit_form a b bits bits' n → Recorded k a b bits bits' columns columns n
+bits_recorded k a b bits bits' columns n is section = rw is (section, refl)
+
+pub columns_recorded : (k : Kind) (a b : Reader) (bits : List BitNode) (columns columns' : List ColumnNode) (n : ℕ) → k ≡ Column → Section column_form a b columns columns' n → Recorded k a b bits bits columns columns' n
+columns_recorded k a b bits columns columns' n is section = rw is (section, refl)
+
+pub bits_not_recorded : (k : Kind) (a : Reader) (bits bits' : List BitNode) (columns : List ColumnNode) (f : Fault) → k ≡ Bit → NoSection bit_form a bits bits' f → NotRecorded k a bits bits' columns columns f
+bits_not_recorded k a bits bits' columns f is none = rw is (none, refl)
+
+pub columns_not_recorded : (k : Kind) (a : Reader) (bits : List BitNode) (columns columns' : List ColumnNode) (f : Fault) → k ≡ Column → NoSection column_form a columns columns' f → NotRecorded k a bits bits columns columns' f
+columns_not_recorded k a bits columns columns' f is none = rw is (none, refl)
+
 -- how far the reader has come, and what is refused there
 module _ (r : Tables) {s : Reader} {bs : List ℕ} (fresh : Fresh bs s) where
   pub kind_stops : (f : Fault) → Refused (line_layout kind_form) s.line (rest s) f → Stops (from_kind r) s.line (rest s) r r f

@@ -55,6 +55,7 @@ pub enum Call {
 }
 
 // What a catalogue says besides its tables: the form, how many entries each table has, and the start link.
+// The counts stand here and not in slices: no value can borrow the tables and the contract also say what they then hold.
 #[derive(Clone, Copy, Debug, PartialEq)]
 pub struct Contents {
     pub kind: Kind,

@@ -52,6 +52,7 @@ impl Row for One {
     }
 }
 
+// Here and below a pattern takes the numbers apart: of a closure that does so `map` says nothing.
 impl Row for u32 {
     ghost form = { number_form };
 

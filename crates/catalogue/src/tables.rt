@@ -31,7 +31,8 @@ impl<const FEATURES: usize, const RECORDS: usize, const PRICES: usize, const CAL
 > {
     // Tables of zeros, in which each call is a lift. One step an entry.
     pub fn blank() -> Self
-        ensures { lent result.features result.bits result.columns result.prices result.calls ≡ blank_tables FEATURES RECORDS PRICES CALLS }
+        ensures { lent result.features result.bits result.columns result.prices result.calls
+            ≡ blank_tables FEATURES RECORDS PRICES CALLS }
     {
         Tables {
             features: [Feature {

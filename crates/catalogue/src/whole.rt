@@ -1,7 +1,6 @@
 // A whole catalogue.
-ghost use Rattle.std.specs.Result.{MatchResult};
 ghost use Rattle.catalogue.specs.Content.{lent};
-ghost use Rattle.catalogue.specs.Whole.{Recorded, NotRecorded, Judged};
+ghost use Rattle.catalogue.specs.Whole.{Judged};
 
 use crate::entries::{Call, Contents, Feature, Kind, One};
 use crate::sections::{entry, section};
@@ -9,25 +8,9 @@ use diagram::{BitNode, ColumnNode};
 use fault::Fault;
 use text::reader::Reader;
 
-// The records, into the table of their form; the other is left alone. One step a byte of the section.
-fn records(
-    reader: &mut Reader<'_>,
-    kind: Kind,
-    bits: &mut [BitNode],
-    columns: &mut [ColumnNode],
-) -> Result<usize, Fault>
-    ensures { MatchResult result
-        (λ n. Recorded kind reader.old reader.new bits.old bits.new columns.old columns.new n)
-        (λ f. NotRecorded kind reader.old bits.old bits.new columns.old columns.new f) }
-{
-    match kind {
-        Kind::Bit => section(reader, bits),
-        Kind::Column => section(reader, columns),
-    }
-}
-
 // Reads the catalogue that `text` is into the tables that are lent, or says where `text` stops being one. Of the two
 // tables of records, the one that line 1 asks for is filled. One step a byte of the text; nothing is allocated.
+// Each table is a slice of its own, by a rule of the project; `Tables` holds all five of them.
 pub fn read(
     text: &[u8],
     features: &mut [Feature],
@@ -43,7 +26,10 @@ pub fn read(
     let mut reader = Reader::new(text);
     let kind = entry::<Kind>(&mut reader)?;
     let feature_count = section(&mut reader, features)?;
-    let record_count = records(&mut reader, kind, bits, columns)?;
+    let record_count = match kind {
+        Kind::Bit => section(&mut reader, bits)?,
+        Kind::Column => section(&mut reader, columns)?,
+    };
     entry::<One>(&mut reader)?;
     let start = entry::<u32>(&mut reader)?;
     let price_count = section(&mut reader, prices)?;
