@@ -7,6 +7,7 @@ use Rattle.text.specs.Fields.{Small, IsName}
 use Rattle.text.specs.Layouts.{Layout}
 use Rattle.catalogue.specs.declared.entries.Call.{Call}
 use Rattle.catalogue.specs.declared.entries.Call.TheVariants.{Choose, Back, Ceiling, Lift}
+use Rattle.catalogue.specs.declared.entries.Contents.{Contents}
 use Rattle.catalogue.specs.declared.entries.Feature.{Feature}
 use Rattle.catalogue.specs.declared.entries.Kind.{Kind}
 use Rattle.catalogue.specs.declared.entries.Kind.TheVariants.{Bit, Column}
@@ -18,6 +19,12 @@ use Rattle.catalogue.specs.Sections.{section_lines}
 abbrev pub kind_name : Kind → List ℕ
 kind_name Bit = codes "B"
 kind_name Column = codes "C"
+
+-- what a catalogue's kind and counts print as, but for the last byte 10
+abbrev pub contents_text : Contents → List ℕ
+contents_text c =
+    codes "kind " ++ (kind_name c.kind ++ (codes "\nfeatures " ++ (decimal c.features ++ (codes "\nrecords " ++ (decimal c.records
+    ++ (codes "\nprices " ++ (decimal c.prices ++ (codes "\ncalls " ++ decimal c.calls))))))))
 
 abbrev pub kind_form : Form Kind
 kind_form = record { Value = Kind; Good = λ k. Unit {0}; fields = λ k. kind_name k ∷ []; entry = λ at k. k }

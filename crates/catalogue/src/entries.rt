@@ -1,6 +1,6 @@
 // What the tables of a catalogue hold.
 ghost use Rattle.std.specs.Prelude.{◌≡◌, ◌+◌, ◌<◌, ◌≤◌, length, Some, MatchOption};
-ghost use Rattle.catalogue.specs.Content.{kind_name};
+ghost use Rattle.catalogue.specs.Content.{kind_name, contents_text};
 ghost use Rattle.catalogue.specs.Whole.{name_in};
 
 use std::fmt;
@@ -64,6 +64,26 @@ pub struct Contents {
     pub start: u32,
     pub prices: usize,
     pub calls: usize,
+}
+
+// Prints a line each for the kind and the counts.
+impl fmt::Display for Contents {
+    ghost output = { λ c. Some (contents_text c) };
+
+    fn fmt<W: fmt::Write>(&self, f: &mut fmt::Formatter<W>) -> fmt::Result {
+        let Contents {
+            kind,
+            features,
+            records,
+            prices,
+            calls,
+            ..
+        } = *self;
+        write!(
+            f,
+            "kind {kind}\nfeatures {features}\nrecords {records}\nprices {prices}\ncalls {calls}"
+        )
+    }
 }
 
 // The count of a section that has exactly one entry.

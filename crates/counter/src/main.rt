@@ -2,12 +2,11 @@
 #![tactic(auto)]
 
 mod input;
-mod report;
 mod survey;
 
 use anyhow::anyhow;
+use fault::report::Report;
 use input::load;
-use report::Report;
 use survey::survey;
 
 fn main(rt: HostRuntime) -> anyhow::Result<()> {

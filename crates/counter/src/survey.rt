@@ -16,7 +16,7 @@ pub fn survey(text: &[u8]) -> Result<Contents, Fault>
 #[cfg(test)]
 mod tests {
     use super::survey;
-    use crate::report::Report;
+    use fault::report::Report;
     use std::alloc::Global;
     use std::process::Abort;
     use std::test::Fail;

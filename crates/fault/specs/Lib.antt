@@ -1,2 +1,3 @@
 pub mod Told
 pub mod Questions
+pub mod Reports

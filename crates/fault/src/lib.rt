@@ -4,6 +4,8 @@
 ghost use Rattle.std.specs.Prelude.{◌≡◌, Some};
 ghost use Rattle.fault.specs.Told.{told, layer_name, fault_line};
 
+pub mod report;
+
 use std::fmt;
 
 // The part of the system that refuses: the reader of texts, the check of a diagram's table, or a call on a slip. A slip is

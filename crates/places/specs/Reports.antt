@@ -1,8 +1,6 @@
--- What a report prints of a text.
-use Rattle.std.specs.Prelude.{ℕ, List, ◌++◌, Ok, Err, codes, decimal, Result}
-use Rattle.fault.specs.declared.Fault.{Fault}
-use Rattle.fault.specs.Told.{fault_line}
+-- What a number of places prints.
+use Rattle.std.specs.Prelude.{ℕ, List, ◌++◌, codes, decimal}
+use Rattle.places.specs.declared.report.PlaceCount.{PlaceCount}
 
-abbrev pub report_text : Result ℕ Fault → List ℕ
-report_text (Ok places) = codes "places at most " ++ decimal places
-report_text (Err f) = fault_line f
+abbrev pub count_text : PlaceCount → List ℕ
+count_text c = codes "places at most " ++ decimal c.0

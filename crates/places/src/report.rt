@@ -1,23 +1,18 @@
 // What is printed of a text's places.
 ghost use Rattle.std.specs.Prelude.{Some};
-ghost use Rattle.places.specs.Reports.{report_text};
+ghost use Rattle.places.specs.Reports.{count_text};
 
-use fault::Fault;
 use std::fmt;
 
-// What was found in a text: the number of places of its rule book, or the fault.
+// The number of places of a rule book, as it is printed.
 #[derive(Clone, Copy)]
-pub struct Report {
-    pub found: Result<usize, Fault>,
-}
+pub struct PlaceCount(pub usize);
 
-impl fmt::Display for Report {
-    ghost output = { λ r. Some (report_text r.found) };
+impl fmt::Display for PlaceCount {
+    ghost output = { λ c. Some (count_text c) };
 
     fn fmt<W: fmt::Write>(&self, f: &mut fmt::Formatter<W>) -> fmt::Result {
-        match self.found {
-            Ok(places) => write!(f, "places at most {places}"),
-            Err(fault) => write!(f, "{fault}"),
-        }
+        let places = self.0;
+        write!(f, "places at most {places}")
     }
 }

@@ -19,7 +19,8 @@ pub fn survey(text: &[u8]) -> Result<usize, Fault>
 #[cfg(test)]
 mod tests {
     use super::survey;
-    use crate::report::Report;
+    use crate::report::PlaceCount;
+    use fault::report::Report;
     use std::alloc::Global;
     use std::process::Abort;
     use std::test::Fail;
@@ -27,7 +28,7 @@ mod tests {
     // What a report prints of a text.
     fn hold(rt: &impl Abort, heap: Global, text: &[u8], printed: &str) -> Result<(), Fail> {
         let report = Report {
-            found: survey(text),
+            found: survey(text).map(PlaceCount),
         };
         assert_eq!(rt; report.to_string(heap)?.as_str(), printed);
         Ok(())

@@ -1,5 +1,6 @@
-use Rattle.std.proofs.Common.{inl, arith}
+use Rattle.std.proofs.Common.{⊎_elim, inl, inr}
 use Rattle.counter.proofs.survey.survey.Goals as goal
 
 pub returns : goal.returns
-returns c = inl (record { short = omega arith; after = _; judged = c.read.ensures })
+returns c =
+    ⊎_elim (λ w. inl (record { short = w.short; after = _; judged = w.judged })) (λ w. inr w.too_long) (rw c.blank.ensures at c.take.ensures)
