@@ -29,14 +29,9 @@ pub record Passed (a b : Line) : Type 0 where
 -- t is the token that the field bs is, of the kind that is wanted
 abbrev pub Is : Want → Token → List ℕ → Type 0
 Is Want.Name (Token.Name b) bs = IsName bs × (b.now ≡ bs)
-Is Want.Name (Token.Number b n) bs = ⊥
-Is Want.Name (Token.Word b) bs = ⊥
-Is Want.Number (Token.Name b) bs = ⊥
 Is Want.Number (Token.Number b n) bs = IsNumber n bs × (b.now ≡ bs)
-Is Want.Number (Token.Word b) bs = ⊥
-Is Want.Word (Token.Name b) bs = ⊥
-Is Want.Word (Token.Number b n) bs = ⊥
 Is Want.Word (Token.Word b) bs = b.now ≡ bs
+Is _ _ bs = ⊥
 
 -- the field bs is no token of the kind that is wanted
 abbrev pub IsNot : Want → List ℕ → Type 0
