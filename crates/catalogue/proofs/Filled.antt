@@ -3,6 +3,7 @@ use Rattle.std.proofs.Common.{◌≡◌, ℕ, zero, suc, ◌+◌, ◌-◌, ◌<�
 use lib.ListN.{length-replicate}
 use Rattle.std.specs.List.{AllByRecursion}
 use Rattle.std.proofs.ByRecursion.{All-push, All-append}
+use Rattle.std.proofs.lemmas.List.Elements.{All-replicate, recursion_from_All}
 use Rattle.std.proofs.lemmas.List.{length_push, length-map, length-take, drop_more, set_at, take_at, take-append-drop, drop-append-le, map-append}
 use Rattle.fault.specs.declared.Fault.{Fault}
 use Rattle.fault.specs.Told.{told, file_fault}
@@ -57,8 +58,7 @@ module _ {E : Type 0} (F : Form E) (law : Lawful F) where
   section_clean room xs good = (line_clean number_form number_lawful (length xs) (good.1, tt), rows_clean xs good.0)
 
   examples_good : (n : ℕ) → AllByRecursion F.Good (replicate n law.example)
-  examples_good zero = tt
-  examples_good (suc n) = (law.example_good, examples_good n)
+  examples_good n = recursion_from_All F.Good (replicate n law.example) (All-replicate F.Good n law.example law.example_good)
 
   -- where the entries go
   placed-append : (at : ℕ) (xs ys : List F.Value) → placed F at (xs ++ ys) ≡ placed F at xs ++ placed F (at + length (text_of (map (line_of F) xs))) ys

@@ -17,10 +17,10 @@ impl fmt::Display for Kind {
     ghost output = { λ k. Some (kind_name k) };
 
     fn fmt<W: fmt::Write>(&self, f: &mut fmt::Formatter<W>) -> fmt::Result {
-        match self {
-            Kind::Bit => write!(f, "B"),
-            Kind::Column => write!(f, "C"),
-        }
+        f.write_str(match self {
+            Kind::Bit => "B",
+            Kind::Column => "C",
+        })
     }
 }
 
