@@ -1,5 +1,6 @@
 // A catalogue read into tables of chosen sizes.
 use catalogue::entries::{Call, Contents, Feature};
+use catalogue::tables::Tables;
 use catalogue::whole::read;
 use diagram::{BitNode, ColumnNode};
 use fault::Fault;
@@ -34,18 +35,11 @@ pub const EXAMPLE: &[u8] =
     b"B\n3\nsize 3\nfinish 2\ncard 2\n3\n0 3 1\n1 1 4\n2 1 0\n1\n2\n7\n900\n1100\n1500\n0\n300\n0\n600\n3\nceiling 1500\nchoose 0 2\nchoose 2 1\n";
 
 // Tables of eight entries each.
-#[derive(Drop)]
-pub(crate) struct Tables {
-    pub(crate) features: [Feature; 8],
-    pub(crate) bits: [BitNode; 8],
-    pub(crate) columns: [ColumnNode; 8],
-    pub(crate) prices: [u32; 8],
-    pub(crate) calls: [Call; 8],
-}
+pub(crate) type EightEach = Tables<8, 8, 8, 8>;
 
 // Reads into new tables of which so many entries are lent, at most eight of each, in the order of the fields. Gives the
 // answer, and the tables.
-pub(crate) fn read_into(text: &[u8], rooms: [usize; 5]) -> (Result<Contents, Fault>, Tables) {
+pub(crate) fn read_into(text: &[u8], rooms: [usize; 5]) -> (Result<Contents, Fault>, EightEach) {
     let mut tables = Tables {
         features: [NO_FEATURE; 8],
         bits: [NO_BIT; 8],

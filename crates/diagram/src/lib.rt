@@ -1,4 +1,5 @@
-// The nodes of the two forms of decision diagram. A link is 0 for false, 1 for true, and r + 2 for record r.
+// The nodes of the two forms of decision diagram. A link is 0 for false, 1 for true, and r + 2 for record r: a number and
+// no pointer, since the nodes stand in a lent table as they were read, and nothing is allocated.
 #![tactic(auto)]
 
 // A node of a bit diagram: which bit it tests, and where it leads when that is 0 or 1.

@@ -1,16 +1,13 @@
--- The index of a bit table, and that its rule book keeps the laws.
-use Rattle.std.specs.Prelude.{◌≡◌, ℕ, ◌+◌, ◌<◌, ◌≤◌, List, [], length, slice_index}
+-- The rule book of a bit table keeps the laws, and what it holds for good holds in one way only.
+use Rattle.std.specs.Prelude.{ℕ, ◌+◌, ◌<◌, List, [], length}
 use Rattle.std.proofs.Common.{lit<}
 use Rattle.std.proofs.Props.{props}
 use Rattle.book.specs.Books.{BookLaws}
 use Rattle.diagram.specs.declared.BitNode.{BitNode}
 use Rattle.node.specs.Forms.{Well, book_of}
-use Rattle.node.specs.Bits.{Reaches, base_of, bit_form, bit_of, bit_step}
+use Rattle.diagram_books.specs.Bases.{Based}
+use Rattle.node.specs.Bits.{Reaches, bit_form, bit_of, bit_step}
 use Rattle.node.proofs.BitLaws.{bit_laws}
-
--- the first bits of the features stand in a row, and behind them the number of all bits
-abbrev pub Based : List ℕ → List ℕ → Type 0
-Based ds bases = (f : ℕ) → f ≤ length ds → slice_index bases f ≡ base_of ds f
 
 pub based_once : (ds bases : List ℕ) → IsProp (Based ds bases)
 based_once ds bases = hlevel props

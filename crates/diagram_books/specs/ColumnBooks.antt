@@ -1,4 +1,4 @@
--- The rule book of a column table keeps the laws.
+-- The rule book of a column table keeps the laws, and what it holds for good holds in one way only.
 use Rattle.std.specs.Prelude.{ℕ, ◌≤◌, List, [], ⊤}
 use Rattle.std.specs.Coded.{Unit-prop}
 use Rattle.std.proofs.Common.{arith}

@@ -1,3 +1,4 @@
+pub mod Bases
 pub mod BitBooks
 pub mod Checks
 pub mod ColumnBooks

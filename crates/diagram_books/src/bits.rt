@@ -11,5 +11,5 @@ pub mod widths;
 pub type BitTable<'a> = Table<'a, BitNode>;
 
 // The rule book of a bit table. Its index is the number of the first bit of each feature, with the number of all bits behind
-// the last.
+// the last: an array of fixed size beside the counts, since there is no heap and a step has to find its bits in constant time.
 pub type BitDiagram<'a> = Diagram<'a, BitNode, [usize; 25]>;

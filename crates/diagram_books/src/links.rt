@@ -29,7 +29,10 @@ impl Link {
 pub(crate) fn place_of(link: usize) -> Option<usize>
     ensures { result ≡ place_of_link link }
 {
-    if link == 0 { None } else { Some(link) }
+    match Link::of(link) {
+        Link::False => None,
+        Link::True | Link::Record(_) => Some(link),
+    }
 }
 
 // How many values a feature has; 0 where there is no such feature. Constant time.

@@ -95,7 +95,8 @@ impl Fault {
         }
     }
 
-    // The layer that refuses. Constant time.
+    // The layer that refuses. Constant time. By the number, since the questions are numbered by layer, and a match on the
+    // cases would list them all once more.
     pub fn layer(&self) -> Layer
         ensures { result ≡ (told self.now).layer }
     {

@@ -10,7 +10,7 @@ use diagram_books::source::Source;
 use diagram_books::table::Table;
 use fault::Fault;
 
-// How many values each feature has. One step a feature of the table.
+// How many values each feature has. One step a feature of the table. An array of the table's size, since there is no heap.
 fn value_counts(features: &[Feature; 24]) -> [u32; 24]
     ensures { result ≡ map (λ f. f.values) features.now }
 {

@@ -19,7 +19,10 @@ pub(crate) fn comes(records: &[BitNode], bit: usize, link: usize) -> bool
 pub(crate) fn may_stand(records: &[BitNode], bit: usize, link: usize) -> bool
     ensures { result ≡ opens records.now bit link }
 {
-    link > 0 && comes(records, bit, link)
+    match Link::of(link) {
+        Link::False => false,
+        Link::True | Link::Record(_) => comes(records, bit, link),
+    }
 }
 
 // Where the bits from `base` to before `end` lead from the link: bit base + j of the value has weight 2^j. One step a bit.

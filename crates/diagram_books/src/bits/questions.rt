@@ -1,6 +1,7 @@
 // What is asked of a record of a bit diagram, and how a walk steps.
 ghost use Rattle.node.specs.Bits.{Reaches, bit_form, bit_of, bit_step};
-ghost use Rattle.diagram_books.specs.BitBooks.{Based, bit_well_once, based_once, bit_false_starts, bit_lawful};
+ghost use Rattle.diagram_books.specs.Bases.{Based};
+ghost use Rattle.diagram_books.specs.BitBooks.{bit_well_once, based_once, bit_false_starts, bit_lawful};
 
 use crate::bits::follow::{comes, follow_bits, may_stand};
 use crate::bits::widths::bit_bases;

@@ -1,7 +1,7 @@
 // How many bits a feature has, and where they begin.
 ghost use Rattle.std.specs.Prelude.{◌≡◌, ◌≤◌, length};
 ghost use Rattle.node.specs.Bits.{Fewest, width_of};
-ghost use Rattle.diagram_books.specs.BitBooks.{Based};
+ghost use Rattle.diagram_books.specs.Bases.{Based};
 
 // How many bits a feature of 1 to 16 values has: the fewest that tell them apart. Constant time.
 pub fn bit_width(values: u32) -> usize
@@ -17,7 +17,8 @@ pub fn bit_width(values: u32) -> usize
     }
 }
 
-// The number of the first bit of each feature, and behind the last that of all bits. One step a feature.
+// The number of the first bit of each feature, and behind the last that of all bits. One step a feature. The place is
+// written by its index, since nothing is proved of what `bases.iter_mut().skip(1).zip(counts)` leaves behind.
 pub(crate) fn bit_bases(counts: &[u32]) -> [usize; 25]
     requires { length counts.now ≤ 24 }
     ensures { Based counts.now result }

@@ -72,7 +72,11 @@ impl Node<()> for ColumnNode {
     }
 
     fn starts(records: &[ColumnNode], start: u32) -> bool {
-        start == 0 || leads_to(records, 0, start as usize)
+        let start = start as usize;
+        match Link::of(start) {
+            Link::False => true,
+            Link::True | Link::Record(_) => leads_to(records, 0, start),
+        }
     }
 
     fn step(
