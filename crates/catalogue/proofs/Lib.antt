@@ -1,4 +1,3 @@
-pub mod Exits
 pub mod Numbers
 pub mod Words
 pub mod Lines

@@ -1,5 +1,5 @@
 use Rattle.std.proofs.lemmas.Result.{MatchResult-weaker}
-use Rattle.catalogue.proofs.Exits.{passed_on}
+use Rattle.fault.proofs.Exits.{passed_on}
 use Rattle.catalogue.proofs.Lines.{absent, line_refused, entered, not_entered}
 use Rattle.catalogue.proofs.sections.entry.Goals as goal
 

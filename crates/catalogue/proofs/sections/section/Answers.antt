@@ -1,6 +1,6 @@
 use Rattle.std.proofs.Common.{arith}
 use Rattle.std.proofs.lemmas.List.{length-take, set-get_or}
-use Rattle.catalogue.proofs.Exits.{passed_on}
+use Rattle.fault.proofs.Exits.{passed_on}
 use Rattle.catalogue.proofs.Filled.{rows_more, rows_within, section_all, counts_not, rows_not}
 use Rattle.catalogue.proofs.sections.section.Goals as goal
 

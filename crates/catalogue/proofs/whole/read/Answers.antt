@@ -1,4 +1,4 @@
-use Rattle.catalogue.proofs.Exits.{passed_on}
+use Rattle.fault.proofs.Exits.{passed_on}
 use Rattle.catalogue.proofs.Stages.{kind_stops, features_stop, records_stops, one_stops, start_stops, prices_stop, calls_stop, all_read, the_contents, bits_recorded, columns_recorded, bits_not_recorded, columns_not_recorded}
 use Rattle.catalogue.proofs.Verdicts.{denied, accepted, surplus}
 use Rattle.catalogue.specs.Whole.{Recorded}

@@ -1,13 +1,12 @@
-use Rattle.std.proofs.Common.{Err, ap, ◌∙◌, ⊎_elim, inl, inr}
-use Rattle.std.proofs.lemmas.Result.{err_from_is_err_and}
+use Rattle.std.proofs.Common.{ap, ◌∙◌, ⊎_elim, inl, inr}
+use Rattle.fault.proofs.Exits.{passed_on}
 use Rattle.fault.specs.Questions.{refusal}
 use Rattle.places.proofs.Found.{asked_of, features_at_most, records_at_most, taken_short}
 use Rattle.places.proofs.survey.survey.Goals as goal
 
 pub returns-in_err-contents : goal.returns-in_err-contents
 returns-in_err-contents c =
-    let p = err_from_is_err_and c.from_residual.result c.from_residual.ensures.1 in
-    let e = p.1 ∙ ap Err p.2 in
+    let e = passed_on c.from_residual.result c.in_err-contents.field-0.0 c.from_residual.ensures in
     ⊎_elim
     (λ w. inr (inl (record { short = w.short; after = _; fault = _; denied = w.judged; is = e })))
     (λ w. inr (inr (record { long = w.too_long.long; refused = ap refusal e ∙ w.too_long.refused })))

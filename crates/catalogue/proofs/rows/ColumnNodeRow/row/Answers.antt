@@ -1,5 +1,5 @@
 use Rattle.std.proofs.Common.{refl}
-use Rattle.catalogue.proofs.Exits.{passed_on}
+use Rattle.fault.proofs.Exits.{passed_on}
 use Rattle.catalogue.specs.Content.{column_numbers}
 use Rattle.catalogue.proofs.Numbers.{said, unsaid}
 use Rattle.catalogue.proofs.rows.ColumnNodeRow.row.Goals as goal

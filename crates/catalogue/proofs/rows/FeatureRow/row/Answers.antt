@@ -1,5 +1,5 @@
 use Rattle.std.proofs.Common.{[], ◌∷◌, decimal}
-use Rattle.catalogue.proofs.Exits.{passed_on}
+use Rattle.fault.proofs.Exits.{passed_on}
 use Rattle.catalogue.proofs.Words.{said_feature, unsaid_values}
 use Rattle.catalogue.proofs.rows.FeatureRow.row.Goals as goal
 

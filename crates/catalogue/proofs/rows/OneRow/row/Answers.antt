@@ -1,5 +1,5 @@
 use Rattle.std.proofs.Common.{arith}
-use Rattle.catalogue.proofs.Exits.{passed_on}
+use Rattle.fault.proofs.Exits.{passed_on}
 use Rattle.catalogue.proofs.Words.{unsaid_one, unsaid_other}
 use Rattle.catalogue.proofs.rows.OneRow.row.Goals as goal
 

@@ -1,6 +1,6 @@
 use Rattle.std.proofs.Common.{refl}
 use Rattle.catalogue.specs.Forms.{alone}
-use Rattle.catalogue.proofs.Exits.{passed_on}
+use Rattle.fault.proofs.Exits.{passed_on}
 use Rattle.catalogue.proofs.Numbers.{said, unsaid}
 use Rattle.catalogue.proofs.rows.U32Row.row.Goals as goal
 

@@ -1,13 +1,12 @@
 use Rattle.std.proofs.Common.{length, refl, inl, arith}
-use Rattle.std.proofs.lemmas.Result.{err_from_is_err_and}
+use Rattle.fault.proofs.Exits.{passed_on}
 use Rattle.fault.specs.Questions.{Accepts}
 use Rattle.diagram_books.proofs.Asked.{stopped, sizes_early, sizes_late}
 use Rattle.diagram_books.proofs.table.Table.ask_sizes.Goals as goal
 
 pub returns-in_err-ask_features : goal.returns-in_err-ask_features
 returns-in_err-ask_features g c =
-    let p = err_from_is_err_and c.from_residual.result c.from_residual.ensures.1 in
-    rw (p.1, p.2) (sizes_early c.args.self.now.source c.args.self.now.counts.now (length c.args.self.now.records.now) _ c.in_err-ask_features.ensures)
+    rw (passed_on c.from_residual.result c.in_err-ask_features.field-0.0 c.from_residual.ensures) (sizes_early c.args.self.now.source c.args.self.now.counts.now (length c.args.self.now.records.now) _ c.in_err-ask_features.ensures)
 
 pub returns-then-self-gt2046 : goal.returns-then-self-gt2046
 returns-then-self-gt2046 g c =

@@ -1,4 +1,4 @@
-use Rattle.std.proofs.lemmas.Result.{err_from_is_err_and}
+use Rattle.fault.proofs.Exits.{passed_on}
 use Rattle.fault.specs.Questions.{Accepts}
 use Rattle.diagram_books.proofs.Asked.{sizes_pass, table_early, table_late, table_well}
 use Rattle.diagram_books.proofs.table.Table.check.Goals as goal
@@ -6,8 +6,7 @@ use Rattle.diagram_books.proofs.table.Table.check.Goals as goal
 pub returns-in_err-ask_sizes-clause-asked : goal.returns-in_err-ask_sizes-clause-asked
 returns-in_err-ask_sizes-clause-asked g c =
     let t = c.args.self in
-    let p = err_from_is_err_and c.from_residual.result c.from_residual.ensures.1 in
-    rw (p.1, p.2) (table_early t.source t.counts.now g.N.Node.form t.records.now t.start _ c.in_err-ask_sizes.ensures)
+    rw (passed_on c.from_residual.result c.in_err-ask_sizes.field-0.0 c.from_residual.ensures) (table_early t.source t.counts.now g.N.Node.form t.records.now t.start _ c.in_err-ask_sizes.ensures)
 
 pub invariant_of-ask_body : goal.invariant_of-ask_body
 invariant_of-ask_body g c =
@@ -18,8 +17,7 @@ invariant_of-ask_body g c =
 pub returns-in_err-ask_body-clause-asked : goal.returns-in_err-ask_body-clause-asked
 returns-in_err-ask_body-clause-asked g c =
     let t = c.args.self in
-    let p = err_from_is_err_and c.from_residual-in_err-ask_body.result c.from_residual-in_err-ask_body.ensures.1 in
-    rw (p.1, p.2)
+    rw (passed_on c.from_residual-in_err-ask_body.result c.in_err-ask_body.field-0.0 c.from_residual-in_err-ask_body.ensures)
     (table_late t.source t.counts.now g.N.Node.form t.records.now t.start _ c.in_ok-ask_sizes.ensures c.in_err-ask_body.ensures)
 
 pub invariant_of-result : goal.invariant_of-result
