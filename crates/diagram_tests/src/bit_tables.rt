@@ -8,6 +8,7 @@ use fault::Fault;
 use std::test::Fail;
 
 // What the check says of a table with four values and one of two: bits 0 and 1, and bit 2.
+// One for each form, since the trait that tells the forms apart is private to the crate of both.
 fn outcome<'a>(records: &'a [BitNode], start: u32) -> Result<BitDiagram<'a>, Fault> {
     read(&[4, 1, 2], records, start).check()
 }

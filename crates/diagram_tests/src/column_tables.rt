@@ -7,6 +7,7 @@ use fault::Fault;
 use std::test::Fail;
 
 // What the check says of a table with columns of three and two values.
+// One for each form, since the trait that tells the forms apart is private to the crate of both.
 fn outcome<'a>(records: &'a [ColumnNode], start: u32) -> Result<ColumnDiagram<'a>, Fault> {
     read(&[3, 2], records, start).check()
 }

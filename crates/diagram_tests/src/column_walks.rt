@@ -2,17 +2,11 @@
 use crate::tables::{COUNTS, column, made};
 use book::{RuleBook, is_permitted, walk};
 use diagram::ColumnNode;
-use diagram_books::columns::ColumnDiagram;
-
-fn book<'a>(counts: &'a [u32], records: &'a [ColumnNode], start: u32) -> ColumnDiagram<'a> {
-    made(counts, records, start)
-        .check()
-        .unwrap_or(ColumnDiagram::nothing())
-}
+use std::test::Fail;
 
 // The example's column form permits what its bit form permits.
 #[test]
-fn example(rt: HostRuntime) {
+fn example(rt: HostRuntime) -> Result<(), Fail> {
     let records = [
         column(0, 0, 5, 3),
         column(0, 1, 5, 4),
@@ -23,7 +17,7 @@ fn example(rt: HostRuntime) {
         column(2, 0, 1, 9),
         column(2, 1, 1, 0),
     ];
-    let book = book(COUNTS, &records, 2);
+    let book = made(COUNTS, &records, 2).check()?;
     assert_eq!(rt; book.features(), 3);
     assert_eq!(rt; book.places(), 10);
     for size in 0..3 {
@@ -51,6 +45,7 @@ fn example(rt: HostRuntime) {
     ] {
         assert_eq!(rt; book.step(feature, place, value), next);
     }
+    Ok(())
 }
 
 // A chain of 16 records, from value 0 to value 15.
@@ -64,25 +59,27 @@ fn chain_of_all() -> [ColumnNode; 16] {
 
 // A chain of 16 values, each found, and none from the middle for a value that was passed.
 #[test]
-fn chain(rt: HostRuntime) {
+fn chain(rt: HostRuntime) -> Result<(), Fail> {
     let records = chain_of_all();
-    let book = book(&[16], &records, 2);
+    let book = made(&[16], &records, 2).check()?;
     for value in 0..16 {
         assert_eq!(rt; book.step(0, 2, value), Some(1));
         assert_eq!(rt; book.step(0, 10, value).is_some(), value >= 8);
         assert!(rt; is_permitted(&book, &[value]));
     }
     assert_eq!(rt; book.step(0, 2, 16), None);
+    Ok(())
 }
 
 // The start 0 permits nothing, and a record what its chain has; a column of one value has one record.
 #[test]
-fn starts(rt: HostRuntime) {
+fn starts(rt: HostRuntime) -> Result<(), Fail> {
     let records = [column(0, 0, 4, 3), column(0, 1, 4, 0), column(1, 0, 1, 0)];
     let counts = [2, 1];
     for (start, first, second) in [(0, false, false), (2, true, true), (3, false, true)] {
-        let book = book(&counts, &records, start);
+        let book = made(&counts, &records, start).check()?;
         assert_eq!(rt; is_permitted(&book, &[0, 0]), first);
         assert_eq!(rt; is_permitted(&book, &[1, 0]), second);
     }
+    Ok(())
 }
