@@ -30,8 +30,7 @@ pub trait Node<I: Copy>: Copy {
 
     // Whether what the record tests exists. Constant time.
     fn exists(&self, counts: &[u32], index: &I) -> bool
-        requires few { length counts.now ≤ 24 }
-        requires known { indexed counts.now index.now }
+        requires { indexed counts.now index.now }
         ensures { Decides result (form.exists counts.now self.now) };
 
     // Whether both links are allowed. Constant time.

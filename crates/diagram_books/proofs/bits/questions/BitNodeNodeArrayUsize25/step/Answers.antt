@@ -13,8 +13,8 @@ follow_bits-requires c =
     let within : f < length ds = c.if-feature-counts.false in
     let more = widths_more ds f within in
     let few = width_few (get_or ds f 0) in
-    let from = c.requires.known f (omega arith) in
-    let to = c.requires.known (f + 1) (omega arith) in
+    let from = c.requires.known.1 f (omega arith) in
+    let to = c.requires.known.1 (f + 1) (omega arith) in
     record {
       linked = linked_of ds c.args.records.now w.0 w.1;
       stands = (opens_some c.args.records.now _ c.args.place (sym c.may_stand.ensures ∙ c.if-not-may_stand.false)).1;
@@ -30,4 +30,4 @@ returns c =
     let within : f < length ds = c.if-feature-counts.false in
     c.place_of.ensures
     ∙ ap place_of_link c.follow_bits.ensures
-    ∙ step_by ds c.args.records.now w.0 w.1 f c.args.place c.args.value _ _ within c.if-value-counts.false (c.requires.known f (omega arith)) (c.requires.known (f + 1) (omega arith)) (sym c.may_stand.ensures ∙ c.if-not-may_stand.false)
+    ∙ step_by ds c.args.records.now w.0 w.1 f c.args.place c.args.value _ _ within c.if-value-counts.false (c.requires.known.1 f (omega arith)) (c.requires.known.1 (f + 1) (omega arith)) (sym c.may_stand.ensures ∙ c.if-not-may_stand.false)
