@@ -55,15 +55,11 @@ pub fn walk<B: RuleBook>(book: &B, set: &[usize]) -> Option<usize>
 pub fn is_full<B: RuleBook>(book: &B, set: &[usize]) -> bool
     ensures { Decides result (FullSet (B.RuleBook.book book.now) set.now) }
 {
-    if set.len() != book.features() {
-        return false;
-    }
-    for (feature, value) in set.iter().enumerate() {
-        if *value >= book.values(feature) {
-            return false;
-        }
-    }
-    true
+    set.len() == book.features()
+        && set
+            .iter()
+            .enumerate()
+            .all(|(feature, value)| *value < book.values(feature))
 }
 
 // Whether the set is a full set that the book permits. Two questions to the book a value.
