@@ -40,7 +40,8 @@ pub trait RuleBook {
 }
 
 // Walks a set from the start, one step a feature in order: where the walk ends, or none where it met none. One step of the
-// book a value.
+// book a value. A loop, since `try_fold` takes as many lines, and an answer that the loop does not need.
+#[tactic(auto, using(crate::proofs::Walks::walk_more))]
 pub fn walk<B: RuleBook>(book: &B, set: &[usize]) -> Option<usize>
     ensures { result ≡ walk_of (B.RuleBook.book book.now) set.now }
 {
