@@ -9,7 +9,7 @@ use Rattle.node.specs.Bits.{Comes, Ordered, Reaches, done, base_of, behind, bit_
 use Rattle.node.proofs.BitFollows.{linked_of}
 use Rattle.node.proofs.BitReaches.{bit_of-base, reaches_some, reaches_followed, followed_reaches, followed_comes}
 use Rattle.node.proofs.Widths.{widths_more}
-use Rattle.node.proofs.Places.{none≢some, some_same, place_zero, place_some, place_is}
+use Rattle.node.proofs.Places.{place_zero, place_some, place_is}
 
 pub opened : (rs : List BitNode) (b l : ℕ) → 1 ≤ l → Comes rs b l → opens rs b l ≡ true
 opened rs b l some c =
@@ -183,11 +183,11 @@ module _ (ds : List ℕ) (rs : List BitNode) (start : ℕ) (well : Well bit_form
 
   stays_within : (f p v q : ℕ) → bit_step ds rs f p v ≡ Some q → q < length rs + 2
   stays_within f p v q =
-      by_led (λ o. o ≡ Some q → q < length rs + 2) f p v (λ e. absurd (none≢some None q refl e))
+      by_led (λ o. o ≡ Some q → q < length rs + 2) f p v (λ e. absurd (cc))
       (λ a b o nz e.
       let s = opens_some rs (base_of ds f) p o in
       let c = followed_comes rs (λ n. digit v (n - base_of ds f)) (base_of ds f) (end_of f) v (λ n x y. refl) linked (end_of f - base_of ds f) (base_of ds f) p (omega arith) s.1 (omega arith) in
-      let same = some_same (Some q) (led f v p) q (sym e) refl in
+      let same : led f v p ≡ q = cc in
       ⊎_elim (λ (h : led f v p < 2). omega arith) (λ (h : 2 ≤ led f v p). let i = (c h).0 in omega arith) (cases_lt (led f v p) 2))
 
   pub bit_laws : BookLaws (bit_book ds rs start) (λ xs. Reaches rs (bit_of ds xs) start)

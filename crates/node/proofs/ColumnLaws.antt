@@ -8,7 +8,7 @@ use Rattle.node.specs.Forms.{Inside, Well}
 use Rattle.node.specs.Columns.{Reads, behind, chain, column_book, column_form, column_step}
 use Rattle.node.proofs.ColumnLinks.{Linked, linked_of, at_link}
 use Rattle.node.proofs.ColumnReading.{Rest, Stands, reads_inside, chain_found, chain_stands, reads_walks, walks_reads}
-use Rattle.node.proofs.Places.{none≢some, place_zero, place_some, place_is}
+use Rattle.node.proofs.Places.{place_zero, place_some, place_is}
 
 module _ (ds : List ℕ) (rs : List ColumnNode) (start : ℕ) (well : Well column_form ds rs start) where
   abbrev linked : Linked ds rs
@@ -28,7 +28,7 @@ module _ (ds : List ℕ) (rs : List ColumnNode) (start : ℕ) (well : Well colum
 
   stays_within : (f p v q : ℕ) → column_step ds rs f p v ≡ Some q → q < length rs + 2
   stays_within f p v q =
-      by_chain (λ o. o ≡ Some q → q < length rs + 2) f p v (λ e. absurd (none≢some None q refl e))
+      by_chain (λ o. o ≡ Some q → q < length rs + 2) f p v (λ e. absurd (cc))
       (λ i c e.
       let s = chain_stands ds rs start linked (get_or ds f 0) f p v q i c e in
       ⊎_elim (λ (m : f + 1 < length ds). (s.0 m).0.1) (λ (m : length ds ≤ f + 1). let one = s.1 m in omega arith) (cases_lt (f + 1) (length ds)))

@@ -1,5 +1,6 @@
 -- The chain of low links in a table that keeps the rules.
 use Rattle.std.proofs.Common.{◌≡◌, ℕ, zero, suc, ◌+◌, ◌-◌, ◌<◌, ◌≤◌, cond, eqb, ltb, List, length, get_or, Some, None, Option, sym, refl, ap, ◌∙◌, ⊎_elim, arith}
+use Rattle.std.proofs.lemmas.Bool.Decides.{nat_tests}
 use Rattle.std.proofs.lemmas.Bool.{cases_eq, cond-true, cond-false, cond_both, eq-eqb, ne_eqb, eqb-true, eqb-false, lt-ltb, le-ltb, ltb-true, ltb-false}
 use Rattle.diagram.specs.declared.ColumnNode.{ColumnNode}
 use Rattle.node.specs.Forms.{Inside, Well}
@@ -34,87 +35,62 @@ chain_none rs (suc k) v = refl
 
 pub chain_here : (rs : List ColumnNode) (k l v : ℕ) → 1 ≤ k → 2 ≤ l → (behind rs l).value ≡ v → chain rs k l v ≡ Some (behind rs l).high
 chain_here rs zero l v some link same = absurd (omega arith)
-chain_here rs (suc k) l v some link same =
-    cond-false (eqb l 0) _ _ (ne_eqb l 0 (λ e. omega arith)) ∙ cond-true (eqb (behind rs l).value v) _ _ (eq-eqb (behind rs l).value v same)
+chain_here rs (suc k) l v some link same = grind (arith, nat_tests)
 
 pub chain_past : (rs : List ColumnNode) (k l v : ℕ) → 2 ≤ l → ((behind rs l).value ≡ v → ⊥) → chain rs (suc k) l v ≡ chain rs k (behind rs l).low v
-chain_past rs k l v link other =
-    cond-false (eqb l 0) _ _ (ne_eqb l 0 (λ e. omega arith)) ∙ cond-false (eqb (behind rs l).value v) _ _ (ne_eqb (behind rs l).value v other)
+chain_past rs k l v link other = grind (arith, nat_tests)
 
 module _ (ds : List ℕ) (rs : List ColumnNode) (well : Linked ds rs) where
   -- The rules at a link.
   pub at_link : (l : ℕ) → Inside rs l → WellRecord ds rs (behind rs l)
   at_link l h = well (l - 2) (omega arith)
 
+  -- the values from a link's on are at most k
+  abbrev Left : ℕ → ℕ → Type 0
+  Left k l = get_or ds (behind rs l).column 0 ≤ k + (behind rs l).value
+
+  -- At a low link fewer are left.
+  low_left : (k j l : ℕ) → Inside rs l × Left (suc k) l × Left (suc j) l → 1 ≤ (behind rs l).low → Inside rs (behind rs l).low × Left k (behind rs l).low × Left j (behind rs l).low
+  low_left k j l i p =
+      let r = at_link l i.0 in
+      let same = ap (λ (m : ℕ). get_or ds m 0) (r.falls p).1 in
+      let up = r.rises p in
+      ((r.falls p).0, omega arith, omega arith)
+
+  -- Where none is left, a chain has nothing.
+  chain_done : (k l v : ℕ) → (1 ≤ l → Inside rs l × Left 0 l) → None ≡ chain rs k l v
+  chain_done k l v h =
+      ⊎_elim (λ (e : l ≡ 0). rw (e, chain_none)) (λ (e : l ≡ 0 → ⊥). let i = h (omega arith) in let w = (at_link l i.0).known in absurd (omega arith)) (cases_eq l 0)
+
   -- Fuel for the values that are left is enough.
-  pub chain_fuel : (k j l v : ℕ) → Inside rs l → get_or ds (behind rs l).column 0 ≤ k + (behind rs l).value → get_or ds (behind rs l).column 0 ≤ j + (behind rs l).value → chain rs k l v ≡ chain rs j l v
-  chain_fuel zero j l v h a b = let w = (at_link l h).known in absurd (omega arith)
-  chain_fuel (suc k) zero l v h a b = let w = (at_link l h).known in absurd (omega arith)
-  chain_fuel (suc k) (suc j) l v h a b =
-      let r = at_link l h in
-      let d = (behind rs l).low in
-      let low : chain rs k d v ≡ chain rs j d v =
+  pub chain_fuel : (k j l v : ℕ) → (1 ≤ l → Inside rs l × Left k l × Left j l) → chain rs k l v ≡ chain rs j l v
+  chain_fuel zero j l v h = chain_done j l v (λ p. ((h p).0, (h p).1))
+  chain_fuel (suc k) zero l v h = sym (chain_done (suc k) l v (λ p. ((h p).0, (h p).2)))
+  chain_fuel (suc k) (suc j) l v h =
       ⊎_elim
-      (λ (e : d ≡ 0). ap (λ (m : ℕ). chain rs k m v) e ∙ chain_none rs k v ∙ sym (chain_none rs j v) ∙ sym (ap (λ (m : ℕ). chain rs j m v) e))
-      (λ (e : d ≡ 0 → ⊥).
-      let p : 1 ≤ d = omega arith in
-      let s = ap (λ (m : ℕ). get_or ds m 0) (r.falls p).1 in
-      let u = r.rises p in
-      chain_fuel k j d v (r.falls p).0 (omega arith) (omega arith))
-      (cases_eq d 0) in
-      ap (λ (o : Option ℕ). cond (eqb l 0) None (cond (eqb (behind rs l).value v) (Some (behind rs l).high) o)) low
+      (λ (e : l ≡ 0). grind (arith, nat_tests))
+      (λ (e : l ≡ 0 → ⊥).
+      let i = h (omega arith) in
+      let low = chain_fuel k j (behind rs l).low v (low_left k j l i) in
+      cc)
+      (cases_eq l 0)
 
   -- A link whose value is another has what its low link has.
   pub chain_again : (fuel l v : ℕ) → Inside rs l → get_or ds (behind rs l).column 0 ≡ fuel → ((behind rs l).value ≡ v → ⊥) → chain rs fuel l v ≡ chain rs fuel (behind rs l).low v
   chain_again zero l v h size other = let w = (at_link l h).known in absurd (omega arith)
   chain_again (suc k) l v h size other =
-      let r = at_link l h in
-      let d = (behind rs l).low in
-      chain_past rs k l v h.0 other
-      ∙ ⊎_elim
-      (λ (e : d ≡ 0). ap (λ (m : ℕ). chain rs k m v) e ∙ chain_none rs k v ∙ sym (chain_none rs (suc k) v) ∙ sym (ap (λ (m : ℕ). chain rs (suc k) m v) e))
-      (λ (e : d ≡ 0 → ⊥).
-      let p : 1 ≤ d = omega arith in
-      let s = ap (λ (m : ℕ). get_or ds m 0) (r.falls p).1 in
-      let u = r.rises p in
-      chain_fuel k (suc k) d v (r.falls p).0 (omega arith) (omega arith))
-      (cases_eq d 0)
+      chain_past rs k l v h.0 other ∙ chain_fuel k (suc k) (behind rs l).low v (low_left k (suc k) l (h, omega arith, omega arith))
 
   -- The values from the low link's on are fewer.
   pub fewer_left : (f l : ℕ) → Inside rs l → (behind rs l).column ≡ f → cond (eqb (behind rs l).low 0) 0 (get_or ds f 0 - (behind rs (behind rs l).low).value) < cond (eqb l 0) 0 (get_or ds f 0 - (behind rs l).value)
   fewer_left f l h here =
       let r = at_link l h in
-      let d = (behind rs l).low in
-      let known : (behind rs l).value < get_or ds f 0 = rw here at r.known.1 in
-      let here-left : cond (eqb l 0) 0 (get_or ds f 0 - (behind rs l).value) ≡ get_or ds f 0 - (behind rs l).value = cond-false (eqb l 0) _ _ (ne_eqb l 0 (λ e. omega arith)) in
-      cond_both
-      (eqb d 0)
-      0
-      (get_or ds f 0 - (behind rs d).value)
-      (λ n. n < cond (eqb l 0) 0 (get_or ds f 0 - (behind rs l).value))
-      (λ e. omega arith)
-      (λ e.
-      let ne = eqb-false d 0 e in
-      let p : 1 ≤ d = omega arith in
-      let u = r.rises p in
-      omega arith)
+      grind (arith, nat_tests)
 
   -- A step from a link of the feature's column is the chain from it.
   pub step_chain : (f p v : ℕ) → Inside rs p → (behind rs p).column ≡ f → chain rs (get_or ds f 0) p v ≡ column_step ds rs f p v
-  step_chain f p v h here =
-      sym
-      (cond-false (ltb p 2) _ _ (le-ltb p 2 h.0)
-      ∙ cond-true (ltb (p - 2) (length rs)) _ _ (lt-ltb (p - 2) (length rs) (omega arith))
-      ∙ cond-true (eqb (behind rs p).column f) _ _ (eq-eqb (behind rs p).column f here))
+  step_chain f p v h here = grind (arith, nat_tests)
 
 -- A step from anywhere else is none.
 pub step_none : (ds : List ℕ) (rs : List ColumnNode) (f p v : ℕ) → (LeadsTo rs f p → ⊥) → None ≡ column_step ds rs f p v
-step_none ds rs f p v never =
-    cond_both (ltb p 2) _ _ (λ o. None ≡ o) (λ _. refl)
-    (λ a.
-    cond_both (ltb (p - 2) (length rs)) _ _ (λ o. None ≡ o)
-    (λ b.
-    let low = ltb-false p 2 a in
-    let high = ltb-true (p - 2) (length rs) b in
-    cond_both (eqb (behind rs p).column f) _ _ (λ o. None ≡ o) (λ e. absurd (never ((low, omega arith), eqb-true (behind rs p).column f e))) (λ _. refl))
-    (λ _. refl))
+step_none ds rs f p v never = grind (arith, nat_tests)

@@ -5,7 +5,6 @@ use Rattle.diagram.specs.declared.ColumnNode.{ColumnNode}
 use Rattle.book.specs.Books.{walk_from}
 use Rattle.node.specs.Columns.{Reads, done, chosen, passed, behind, chain, column_book, column_step}
 use Rattle.node.specs.Forms.{Inside}
-use Rattle.node.proofs.Places.{none≢some, some_same}
 use Rattle.node.proofs.ColumnLinks.{Linked, at_link, chain_here, chain_past, chain_none, step_chain}
 
 pub reads_inside : {rs : List ColumnNode} {l x : ℕ} {xs : List ℕ} → Reads rs l (x ∷ xs) → Inside rs l
@@ -45,7 +44,7 @@ module _ (ds : List ℕ) (rs : List ColumnNode) (start : ℕ) (well : Linked ds 
 
   -- Where a chain leads was found in it.
   pub chain_found : (k l x h : ℕ) → Inside rs l → chain rs k l x ≡ Some h → Found rs l x h
-  chain_found zero l x h i e = absurd (none≢some _ h refl e)
+  chain_found zero l x h i e = absurd (cc)
   chain_found (suc k) l x h i e =
       let r = at_link ds rs well l i in
       let d = (behind rs l).low in
@@ -55,12 +54,12 @@ module _ (ds : List ℕ) (rs : List ColumnNode) (start : ℕ) (well : Linked ds 
         inside = i;
         column = refl;
         value = same;
-        high = some_same _ (behind rs l).high h (chain_here rs (suc k) l x (omega arith) i.0 same) e;
+        high = let here = chain_here rs (suc k) l x (omega arith) i.0 same in cc;
       })
       (λ (other : (behind rs l).value ≡ x → ⊥).
       let rest : chain rs k d x ≡ Some h = sym (chain_past rs k l x i.0 other) ∙ e in
       ⊎_elim
-      (λ (z : d ≡ 0). absurd (none≢some _ h (ap (λ (m : ℕ). chain rs k m x) z ∙ chain_none rs k x) rest))
+      (λ (z : d ≡ 0). absurd (let none = chain_none rs k x in cc))
       (λ (z : d ≡ 0 → ⊥).
       let p : 1 ≤ d = omega arith in
       let t = chain_found k d x h (r.falls p).0 rest in
@@ -70,17 +69,19 @@ module _ (ds : List ℕ) (rs : List ColumnNode) (start : ℕ) (well : Linked ds 
 
   -- What is read from where a chain leads is read from its link.
   pub chain_reads : (k l x h : ℕ) (xs : List ℕ) → Inside rs l → chain rs k l x ≡ Some h → Reads rs h xs → Reads rs l (x ∷ xs)
-  chain_reads zero l x h xs i e r = absurd (none≢some _ h refl e)
+  chain_reads zero l x h xs i e r = absurd (cc)
   chain_reads (suc k) l x h xs i e r =
       let w = at_link ds rs well l i in
       let d = (behind rs l).low in
       ⊎_elim
       (λ (same : (behind rs l).value ≡ x).
-      chosen i same (subst (λ (m : ℕ). Reads rs m xs) (sym (some_same _ (behind rs l).high h (chain_here rs (suc k) l x (omega arith) i.0 same) e)) r))
+      let here = chain_here rs (suc k) l x (omega arith) i.0 same in
+      let high : h ≡ (behind rs l).high = cc in
+      chosen i same (rw high at r))
       (λ (other : (behind rs l).value ≡ x → ⊥).
       let rest : chain rs k d x ≡ Some h = sym (chain_past rs k l x i.0 other) ∙ e in
       ⊎_elim
-      (λ (z : d ≡ 0). absurd (none≢some _ h (ap (λ (m : ℕ). chain rs k m x) z ∙ chain_none rs k x) rest))
+      (λ (z : d ≡ 0). absurd (let none = chain_none rs k x in cc))
       (λ (z : d ≡ 0 → ⊥). let p : 1 ≤ d = omega arith in passed i other (chain_reads k d x h xs (w.falls p).0 rest r))
       (cases_eq d 0))
       (cases_eq (behind rs l).value x)
