@@ -40,6 +40,9 @@ chain_here rs (suc k) l v some link same = grind (arith, nat_tests)
 pub chain_past : (rs : List ColumnNode) (k l v : ℕ) → 2 ≤ l → ((behind rs l).value ≡ v → ⊥) → chain rs (suc k) l v ≡ chain rs k (behind rs l).low v
 chain_past rs k l v link other = grind (arith, nat_tests)
 
+pub chain_some : (rs : List ColumnNode) (k l v h : ℕ) → chain rs k l v ≡ Some h → 1 ≤ l
+chain_some rs k l v h e = ⊎_elim (λ (z : l ≡ 0). absurd (let none = chain_none rs k v in cc)) (λ (z : l ≡ 0 → ⊥). omega arith) (cases_eq l 0)
+
 module _ (ds : List ℕ) (rs : List ColumnNode) (well : Linked ds rs) where
   -- The rules at a link.
   pub at_link : (l : ℕ) → Inside rs l → WellRecord ds rs (behind rs l)
@@ -94,3 +97,7 @@ module _ (ds : List ℕ) (rs : List ColumnNode) (well : Linked ds rs) where
 -- A step from anywhere else is none.
 pub step_none : (ds : List ℕ) (rs : List ColumnNode) (f p v : ℕ) → (LeadsTo rs f p → ⊥) → None ≡ column_step ds rs f p v
 step_none ds rs f p v never = grind (arith, nat_tests)
+
+-- A step that is not none is a chain from a record of the feature's column.
+pub step_some : (ds : List ℕ) (rs : List ColumnNode) (f p v q : ℕ) → column_step ds rs f p v ≡ Some q → Inside rs p × ((behind rs p).column ≡ f) × (chain rs (get_or ds f 0) p v ≡ Some q)
+step_some ds rs f p v q e = grind (arith, nat_tests)

@@ -5,7 +5,8 @@ use Rattle.diagram.specs.declared.ColumnNode.{ColumnNode}
 use Rattle.book.specs.Books.{walk_from}
 use Rattle.node.specs.Columns.{Reads, done, chosen, passed, behind, chain, column_book, column_step}
 use Rattle.node.specs.Forms.{Inside}
-use Rattle.node.proofs.ColumnLinks.{Linked, at_link, chain_here, chain_past, chain_none, step_chain}
+use Rattle.node.proofs.Places.{passes, walk_some}
+use Rattle.node.proofs.ColumnLinks.{chain_some, Linked, at_link, chain_here, chain_past, chain_none, step_chain}
 
 pub reads_inside : {rs : List ColumnNode} {l x : ℕ} {xs : List ℕ} → Reads rs l (x ∷ xs) → Inside rs l
 reads_inside (chosen i e r) = i
@@ -18,6 +19,8 @@ pub record Found (rs : List ColumnNode) (l x h : ℕ) : Type 0 where
   pub column : (behind rs at).column ≡ (behind rs l).column
   pub value : (behind rs at).value ≡ x
   pub high : (behind rs at).high ≡ h
+  -- what is read from where the chain leads is read from its link
+  pub back : (xs : List ℕ) → Reads rs h xs → Reads rs l (x ∷ xs)
 
 module _ (ds : List ℕ) (rs : List ColumnNode) (start : ℕ) (well : Linked ds rs) where
   -- A value that is read from a link is no less than its record's.
@@ -46,44 +49,17 @@ module _ (ds : List ℕ) (rs : List ColumnNode) (start : ℕ) (well : Linked ds 
   pub chain_found : (k l x h : ℕ) → Inside rs l → chain rs k l x ≡ Some h → Found rs l x h
   chain_found zero l x h i e = absurd (cc)
   chain_found (suc k) l x h i e =
-      let r = at_link ds rs well l i in
-      let d = (behind rs l).low in
-      ⊎_elim
-      (λ (same : (behind rs l).value ≡ x). record {
-        at = l;
-        inside = i;
-        column = refl;
-        value = same;
-        high = let here = chain_here rs (suc k) l x (omega arith) i.0 same in cc;
-      })
-      (λ (other : (behind rs l).value ≡ x → ⊥).
-      let rest : chain rs k d x ≡ Some h = sym (chain_past rs k l x i.0 other) ∙ e in
-      ⊎_elim
-      (λ (z : d ≡ 0). absurd (let none = chain_none rs k x in cc))
-      (λ (z : d ≡ 0 → ⊥).
-      let p : 1 ≤ d = omega arith in
-      let t = chain_found k d x h (r.falls p).0 rest in
-      record { at = t.at; inside = t.inside; column = t.column ∙ (r.falls p).1; value = t.value; high = t.high })
-      (cases_eq d 0))
-      (cases_eq (behind rs l).value x)
-
-  -- What is read from where a chain leads is read from its link.
-  pub chain_reads : (k l x h : ℕ) (xs : List ℕ) → Inside rs l → chain rs k l x ≡ Some h → Reads rs h xs → Reads rs l (x ∷ xs)
-  chain_reads zero l x h xs i e r = absurd (cc)
-  chain_reads (suc k) l x h xs i e r =
-      let w = at_link ds rs well l i in
-      let d = (behind rs l).low in
+      let low = (behind rs l).low in
       ⊎_elim
       (λ (same : (behind rs l).value ≡ x).
       let here = chain_here rs (suc k) l x (omega arith) i.0 same in
       let high : h ≡ (behind rs l).high = cc in
-      chosen i same (rw high at r))
+      record { at = l; inside = i; column = refl; value = same; high = sym high; back = λ xs r. chosen i same (rw high at r) })
       (λ (other : (behind rs l).value ≡ x → ⊥).
-      let rest : chain rs k d x ≡ Some h = sym (chain_past rs k l x i.0 other) ∙ e in
-      ⊎_elim
-      (λ (z : d ≡ 0). absurd (let none = chain_none rs k x in cc))
-      (λ (z : d ≡ 0 → ⊥). let p : 1 ≤ d = omega arith in passed i other (chain_reads k d x h xs (w.falls p).0 rest r))
-      (cases_eq d 0))
+      let rest : chain rs k low x ≡ Some h = sym (chain_past rs k l x i.0 other) ∙ e in
+      let falls = (at_link ds rs well l i).falls (chain_some rs k low x h rest) in
+      let t = chain_found k low x h falls.0 rest in
+      record { at = t.at; inside = t.inside; column = t.column ∙ falls.1; value = t.value; high = t.high; back = λ xs r. passed i other (t.back xs r) })
       (cases_eq (behind rs l).value x)
 
   -- Where a walk may stand before feature f: at a record of its column, or at 1 behind the last.
@@ -97,51 +73,38 @@ module _ (ds : List ℕ) (rs : List ColumnNode) (start : ℕ) (well : Linked ds 
       let c : (behind rs t.at).column ≡ f = t.column ∙ here in (
         λ more.
             let m : (behind rs t.at).column + 1 < length ds = omega arith in
-            (subst (λ (g : ℕ). Inside rs g) t.high (r.leads m).0, ap (λ (g : ℕ). (behind rs g).column) (sym t.high) ∙ (r.leads m).1 ∙ ap (λ (n : ℕ). n + 1) c),
+            rw (sym t.high) (let next = r.leads m in (next.0, next.1 ∙ ap (λ (n : ℕ). n + 1) c)),
         λ last. sym t.high ∙ r.ends (omega arith),
       )
 
   -- The values of the features from f on.
   abbrev pub Rest : ℕ → List ℕ → Type 0
-  Rest f xs = (f + length xs ≡ length ds) × ((i : ℕ) → i < length xs → get_or xs i 0 < get_or ds (f + i) 0)
+  Rest f xs = (f + length xs ≡ length ds) × ((i k : ℕ) → i < length xs → k ≡ f + i → get_or xs i 0 < get_or ds k 0)
 
   rest_of : (f x : ℕ) (xs : List ℕ) → Rest f (x ∷ xs) → Rest (f + 1) xs
-  rest_of f x xs r =
-      let size = r.0 in (
-        omega arith,
-        λ i h.
-            let move : f + suc i ≡ f + 1 + i = omega arith in
-            subst (λ (j : ℕ). get_or xs i 0 < get_or ds j 0) move (r.1 (suc i) (omega arith)),
-      )
+  rest_of f x xs r = let size = r.0 in (omega arith, λ i k h at. r.1 (suc i) k (omega arith) (omega arith))
 
   rest_first : (f x : ℕ) (xs : List ℕ) → Rest f (x ∷ xs) → (f < length ds) × (x < get_or ds f 0)
-  rest_first f x xs r =
-      let size = r.0 in
-      let move : f + 0 ≡ f = omega arith in
-      (omega arith, subst (λ (j : ℕ). x < get_or ds j 0) move (r.1 0 (omega arith)))
+  rest_first f x xs r = let size = r.0 in (omega arith, r.1 0 f (omega arith) (omega arith))
 
-  pub reads_walks : (f l : ℕ) (xs : List ℕ) → Rest f xs → Stands f l → Reads rs l xs → is_some (walk_from (column_book ds rs start) f (Some l) xs) ≡ true
+  pub reads_walks : (f l : ℕ) (xs : List ℕ) → Rest f xs → Stands f l → Reads rs l xs → passes (column_book ds rs start) f xs (Some l) ≡ true
   reads_walks f l [] rest here r = refl
   reads_walks f l (x ∷ xs) rest here r =
       let first = rest_first f x xs rest in
       let on = here.0 first.0 in
       let t = reads_chain (get_or ds f 0) r (omega arith) in
       let stepped : column_step ds rs f l x ≡ Some t.0 = sym (step_chain ds rs well f l x on.0 on.1) ∙ t.1 in
-      ap (λ (o : Option ℕ). is_some (walk_from (column_book ds rs start) (f + 1) o xs)) stepped
+      ap (passes (column_book ds rs start) (f + 1) xs) stepped
       ∙ reads_walks (f + 1) t.0 xs (rest_of f x xs rest) (chain_stands (get_or ds f 0) f l x t.0 on.0 on.1 t.1) t.2
 
-  by_step : (f : ℕ) (xs : List ℕ) (o : Option ℕ) → is_some (walk_from (column_book ds rs start) f o xs) ≡ true → (h : ℕ) × (o ≡ Some h)
-  by_step f xs None e = absurd (false≢true e)
-  by_step f xs (Some h) e = (h, refl)
-
-  pub walks_reads : (f l : ℕ) (xs : List ℕ) → Rest f xs → Stands f l → is_some (walk_from (column_book ds rs start) f (Some l) xs) ≡ true → Reads rs l xs
+  pub walks_reads : (f l : ℕ) (xs : List ℕ) → Rest f xs → Stands f l → passes (column_book ds rs start) f xs (Some l) ≡ true → Reads rs l xs
   walks_reads f l [] rest here e =
       let size = rest.0 in
-      subst (λ (m : ℕ). Reads rs m []) (sym (here.1 (omega arith))) done
+      rw (here.1 (omega arith)) done
   walks_reads f l (x ∷ xs) rest here e =
       let first = rest_first f x xs rest in
       let on = here.0 first.0 in
-      let t = by_step (f + 1) xs (column_step ds rs f l x) e in
+      let t = walk_some (column_book ds rs start) (f + 1) xs (column_step ds rs f l x) e in
       let led : chain rs (get_or ds f 0) l x ≡ Some t.0 = step_chain ds rs well f l x on.0 on.1 ∙ t.1 in
-      let onward : is_some (walk_from (column_book ds rs start) (f + 1) (Some t.0) xs) ≡ true = sym (ap (λ (o : Option ℕ). is_some (walk_from (column_book ds rs start) (f + 1) o xs)) t.1) ∙ e in
-      chain_reads (get_or ds f 0) l x t.0 xs on.0 led (walks_reads (f + 1) t.0 xs (rest_of f x xs rest) (chain_stands (get_or ds f 0) f l x t.0 on.0 on.1 led) onward)
+      let onward = sym (ap (passes (column_book ds rs start) (f + 1) xs) t.1) ∙ e in
+      (chain_found (get_or ds f 0) l x t.0 on.0 led).back xs (walks_reads (f + 1) t.0 xs (rest_of f x xs rest) (chain_stands (get_or ds f 0) f l x t.0 on.0 on.1 led) onward)
