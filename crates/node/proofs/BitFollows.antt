@@ -1,10 +1,10 @@
 -- The tests of a feature's bits.
-use Rattle.std.proofs.Common.{◌≡◌, ℕ, zero, suc, ◌+◌, ◌-◌, ◌<◌, ◌≤◌, cond, eqb, ltb, List, length, sym, refl, ap, ◌∙◌, subst, ⊎_elim, arith}
+use Rattle.std.proofs.Common.{◌≡◌, ℕ, zero, suc, ◌+◌, ◌-◌, ◌<◌, ◌≤◌, cond, eqb, ltb, List, length, get_or, sym, refl, ap, ◌∙◌, subst, ⊎_elim, arith}
 use Rattle.std.proofs.lemmas.Bool.Decides.{nat_tests}
 use Rattle.std.proofs.lemmas.Bool.{cases_lt, cond-true, cond-false, cond_both, eq-eqb, ne_eqb, lt-ltb, le-ltb, ltb-false}
 use Rattle.diagram.specs.declared.BitNode.{BitNode}
 use Rattle.node.specs.Forms.{Well}
-use Rattle.node.specs.Bits.{Comes, Ordered, behind, bit_form, digit, follow, followed, picked}
+use Rattle.node.specs.Bits.{Comes, Ordered, blank, behind, bit_form, digit, follow, followed, picked}
 
 pub linked_of : (ds : List ℕ) (rs : List BitNode) (start : ℕ) → Well bit_form ds rs start → Ordered rs
 linked_of ds rs start well i h = (well.3 i h).1
@@ -50,21 +50,21 @@ module _ (rs : List BitNode) (base end v : ℕ) where
         let fuel = followed_fuel k (suc k) ((behind rs l).bit + 1) (onward l) (onward_comes l h i) (omega arith) (omega arith) in
         cc
 
-    -- A turn of the loop.
-    pub follow_again : (l m whole : ℕ) → base ≤ end → Comes rs base l → 2 ≤ l → (behind rs l).bit < end → onward l ≡ m → follow rs base end v l ≡ whole → Comes rs base m × (follow rs base end v m ≡ whole)
-    follow_again l m whole o c h x p so_far =
-        let i = c h in
-        let d = subst (λ (n : ℕ). Comes rs ((behind rs l).bit + 1) n) p (onward_comes l h i.0) in (
+    -- A turn of the loop, at record r.
+    pub follow_again : (l r m whole : ℕ) → r + 2 ≡ l → base ≤ end → Comes rs base l → (get_or rs r blank).bit < end → picked (get_or rs r blank) (digit v ((get_or rs r blank).bit - base)) ≡ m → follow rs base end v l ≡ whole → Comes rs base m × (follow rs base end v m ≡ whole)
+    follow_again l r m whole is o c x p so_far =
+        let at : r ≡ l - 2 = omega arith in
+        let i = c (omega arith) in
+        let d = rw (rw at at p) at (onward_comes l (omega arith) i.0) in (
           λ t. let j = d t in (j.0, omega arith),
-          sym (followed_again (end - base) l m (omega arith) h i.0 i.1 x p) ∙ so_far,
+          sym (followed_again (end - base) l m (omega arith) (omega arith) i.0 i.1 (rw at at x) (rw at at p)) ∙ so_far,
         )
 
-    -- The bits that are left are fewer.
-    pub follow_less : (l m : ℕ) → Comes rs base l → 2 ≤ l → (behind rs l).bit < end → onward l ≡ m → cond (ltb m 2) 0 (end - (behind rs m).bit) < cond (ltb l 2) 0 (end - (behind rs l).bit)
-    follow_less l m c h x p =
-        let i = c h in
-        let d = subst (λ (n : ℕ). Comes rs ((behind rs l).bit + 1) n) p (onward_comes l h i.0) in
-        grind (arith, nat_tests)
+  -- The loop ends at a record r behind the feature's bits.
+  pub follow_end : (l r whole : ℕ) → r + 2 ≡ l → end ≤ (get_or rs r blank).bit → follow rs base end v l ≡ whole → l ≡ whole
+  follow_end l r whole is b so_far =
+      let at : r ≡ l - 2 = omega arith in
+      sym (followed_behind (end - base) l (omega arith) (rw at at b)) ∙ so_far
 
 -- What a bit picks.
 pub picked_high : (r : BitNode) (b : ℕ) → b ≡ 1 → picked r b ≡ r.high

@@ -101,3 +101,51 @@ step_none ds rs f p v never = grind (arith, nat_tests)
 -- A step that is not none is a chain from a record of the feature's column.
 pub step_some : (ds : List ℕ) (rs : List ColumnNode) (f p v q : ℕ) → column_step ds rs f p v ≡ Some q → Inside rs p × ((behind rs p).column ≡ f) × (chain rs (get_or ds f 0) p v ≡ Some q)
 step_some ds rs f p v q e = grind (arith, nat_tests)
+
+-- What a step has left to pass at a link: the values from it on.
+abbrev pub left_at : List ℕ → List ColumnNode → ℕ → ℕ → ℕ
+left_at ds rs f l = cond (eqb l 0) 0 (get_or ds f 0 - (behind rs l).value)
+
+-- The loop of a step stands at l: that is 0 or of the feature's column, and its chain has what the chain from the place has.
+pub record OnChain (ds : List ℕ) (rs : List ColumnNode) (f p v l : ℕ) : Type 0 where
+  pub leads : 1 ≤ l → LeadsTo rs f l
+  pub same : chain rs (get_or ds f 0) l v ≡ chain rs (get_or ds f 0) p v
+
+module _ (ds : List ℕ) (rs : List ColumnNode) (start : ℕ) (well : Well column_form ds rs start) (f p v l : ℕ) (on : OnChain ds rs f p v l) where
+  module _ (r : ℕ) (is : r + 2 ≡ l) where
+    abbrev at : r ≡ l - 2
+    at = omega arith
+
+    abbrev here : LeadsTo rs f l
+    here = on.leads (omega arith)
+
+    -- The record has another value: on by its low link, where less is left.
+    pub chain_on : ((get_or rs r blank).value ≡ v → ⊥) → OnChain ds rs f p v (get_or rs r blank).low
+    chain_on other =
+        let linked = linked_of ds rs start well in
+        let falls = (at_link ds rs linked l here.0).falls in
+        rw at
+        (record {
+          leads = λ h. ((falls h).0, (falls h).1 ∙ here.1);
+          same = sym (chain_again ds rs linked (get_or ds f 0) l v here.0 (ap (λ (k : ℕ). get_or ds k 0) here.1) (rw at at other)) ∙ on.same;
+        })
+
+    pub chain_less : left_at ds rs f (get_or rs r blank).low < left_at ds rs f l
+    chain_less = rw at (fewer_left ds rs (linked_of ds rs start well) f l here.0 here.1)
+
+    -- The record has the value.
+    pub chain_hit : (get_or rs r blank).value ≡ v → LeadsTo rs f p → Some (get_or rs r blank).high ≡ column_step ds rs f p v
+    chain_hit same place =
+        let linked = linked_of ds rs start well in
+        let known : (behind rs l).value < get_or ds f 0 = rw here.1 at (at_link ds rs linked l here.0).known.1 in
+        rw at
+        (sym (chain_here rs (get_or ds f 0) l v (omega arith) here.0.0 (rw at at same))
+        ∙ on.same
+        ∙ step_chain ds rs linked f p v place.0 place.1)
+
+  -- There is no record.
+  pub chain_miss : l < 2 → LeadsTo rs f p → None ≡ column_step ds rs f p v
+  chain_miss leaf place =
+      let zero : l ≡ 0 = ⊎_elim (λ e. e) (λ (e : l ≡ 0 → ⊥). let h = on.leads (omega arith) in absurd (omega (arith, h.0.0))) (cases_eq l 0) in
+      let none = chain_none rs (get_or ds f 0) v in
+      sym none ∙ sym (ap (λ (n : ℕ). chain rs (get_or ds f 0) n v) zero) ∙ on.same ∙ step_chain ds rs (linked_of ds rs start well) f p v place.0 place.1

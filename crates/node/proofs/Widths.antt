@@ -18,8 +18,8 @@ below_pow k d j low high =
     grind (arith, pow_mono)
 
 -- so many bits are the fewest, for 1 to 16 values
-pub fewest : (d : ℕ) → 1 ≤ d → d ≤ 16 → Fewest d (width_of d)
-fewest d some few = record {
+pub fewest : (d k : ℕ) → k ≡ width_of d → 1 ≤ d → d ≤ 16 → Fewest d k
+fewest d k is some few = record {
   enough = grind (arith, nat_tests);
   least = λ j p. grind (arith, nat_tests, below_pow 0 d j, below_pow 1 d j, below_pow 2 d j, below_pow 3 d j);
 }
