@@ -3,6 +3,10 @@ ghost use Rattle.std.specs.Prelude.{◌≡◌, ℕ, ◌≤◌, List, [], length,
 ghost use Rattle.book.specs.Books.{BookLaws};
 ghost use Rattle.node.specs.Forms.{Form, Well, book_of};
 
+use crate::rule_book::Diagram;
+use crate::sized::SizedTable;
+use crate::table::Table;
+
 // A record of one form of diagram: what is asked of it, and how a walk steps from it. An index, of type I, is what is worked
 // out of the value counts once, so that no step has to.
 pub trait Node<I: Copy>: Copy {
@@ -29,30 +33,25 @@ pub trait Node<I: Copy>: Copy {
         ensures { indexed counts.now result };
 
     // Whether what the record tests exists. Constant time.
-    fn exists(&self, counts: &[u32], index: &I) -> bool
-        requires { indexed counts.now index.now }
-        ensures { Decides result (form.exists counts.now self.now) };
+    fn exists(&self, sized: &SizedTable<'_, Self, I>) -> bool
+        ensures { Decides result (form.exists sized.now.table.counts.now self.now) };
 
     // Whether both links are allowed. Constant time.
-    fn linked(&self, counts: &[u32], records: &[Self]) -> bool
-        ensures { Decides result (form.linked counts.now records.now self.now) };
+    fn linked(&self, table: &Table<'_, Self>) -> bool
+        ensures { Decides result (form.linked table.now.counts.now table.now.records.now self.now) };
 
-    // Whether a start link is allowed. Constant time.
-    fn starts(records: &[Self], start: u32) -> bool
-        ensures { Decides result (form.starts records.now start) };
+    // Whether the start link is allowed. Constant time.
+    fn starts(table: &Table<'_, Self>) -> bool
+        ensures { Decides result (form.starts table.now.records.now table.now.start) };
 
     // The place after this value of this feature. At most one step a bit, or a value, of the feature.
     fn step(
-        counts: &[u32],
-        index: &I,
-        records: &[Self],
+        diagram: &Diagram<'_, Self, I>,
         feature: usize,
         place: usize,
         value: usize,
     ) -> Option<usize>
-        requires known { indexed counts.now index.now }
-        requires well { (start : ℕ) × Well form counts.now records.now start }
-        ensures { result ≡ step counts.now records.now feature place value };
+        ensures { result ≡ step diagram.now.counts.now diagram.now.records.now feature place value };
 
     // False is allowed as the start of a table with no record.
     ghost false_starts: { form.starts [] 0 };

@@ -9,7 +9,7 @@ use fault::Fault;
 
 // A table with at most 24 features and 2,046 records, and the index of its value counts.
 #[derive(Drop)]
-pub(crate) struct SizedTable<'a, N: Node<I>, I: Copy> {
+pub struct SizedTable<'a, N: Node<I>, I: Copy> {
     pub(crate) table: Table<'a, N>,
     pub(crate) index: I,
     ghost few_features: { length table.counts.now ≤ 24 },
@@ -24,16 +24,12 @@ impl<'a, N: Node<I>, I: Copy> SizedTable<'a, N, I> {
         requires same { record.now ≡ slice_index_or self.now.table.records.now i N.form.blank }
         ensures { AsksRecord self.now.table.source N.form self.now.table.counts.now self.now.table.records.now i Accepts (refusal result) }
     {
-        let Table {
-            counts,
-            records,
-            ..
-        } = self.table;
-        let line = self.table.source.line(4 + counts.len() + i);
-        if !record.exists(counts, &self.index) {
+        let Table { counts, source, .. } = self.table;
+        let line = source.line(4 + counts.len() + i);
+        if !record.exists(self) {
             return Err(Fault::NoSuchTest { record: i, line });
         }
-        if !record.linked(counts, records) {
+        if !record.linked(&self.table) {
             return Err(Fault::BadLink { record: i, line });
         }
         Ok(())
@@ -57,10 +53,10 @@ impl<'a, N: Node<I>, I: Copy> SizedTable<'a, N, I> {
         let Table {
             counts,
             records,
-            start,
             source,
+            ..
         } = self.table;
-        if !N::starts(records, start) {
+        if !N::starts(&self.table) {
             return Err(Fault::BadStart {
                 line: source.line(5 + counts.len() + records.len()),
             });

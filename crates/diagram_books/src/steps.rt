@@ -35,13 +35,6 @@ impl<'a, N: Node<I>, I: Copy> RuleBook for Diagram<'a, N, I> {
 
     // At most one step a bit, or a value, of the feature.
     fn step(&self, feature: usize, place: usize, value: usize) -> Option<usize> {
-        N::step(
-            self.counts,
-            &self.index,
-            self.records,
-            feature,
-            place,
-            value,
-        )
+        N::step(self, feature, place, value)
     }
 }

@@ -5,8 +5,10 @@ ghost use Rattle.diagram_books.specs.BitBooks.{bit_well_once, bit_indexed_once, 
 
 use crate::bits::follow::{comes, follow_bits, may_stand};
 use crate::bits::widths::bit_bases;
+use crate::bits::{BitDiagram, BitTable};
 use crate::forms::Node;
 use crate::links::{Link, place_of};
+use crate::sized::SizedTable;
 use diagram::BitNode;
 
 impl Node<[usize; 25]> for BitNode {
@@ -30,38 +32,34 @@ impl Node<[usize; 25]> for BitNode {
         bit_bases(counts)
     }
 
-    fn exists(&self, counts: &[u32], bases: &[usize; 25]) -> bool {
-        (self.bit as usize) < bases[counts.len()]
+    fn exists(&self, sized: &SizedTable<'_, BitNode, [usize; 25]>) -> bool {
+        let bits = sized.index[sized.table.counts.len()];
+        (self.bit as usize) < bits
     }
 
-    fn linked(&self, _counts: &[u32], records: &[BitNode]) -> bool {
+    fn linked(&self, table: &BitTable<'_>) -> bool {
         let later = self.bit as usize + 1;
-        comes(records, later, self.low as usize) && comes(records, later, self.high as usize)
+        comes(table.records, later, self.low as usize)
+            && comes(table.records, later, self.high as usize)
     }
 
-    fn starts(records: &[BitNode], start: u32) -> bool {
-        match Link::of(start as usize) {
+    fn starts(table: &BitTable<'_>) -> bool {
+        match Link::of(table.start as usize) {
             Link::False | Link::True => true,
-            Link::Record(r) => r < records.len(),
+            Link::Record(r) => r < table.records.len(),
         }
     }
 
-    fn step(
-        counts: &[u32],
-        bases: &[usize; 25],
-        records: &[BitNode],
-        feature: usize,
-        place: usize,
-        value: usize,
-    ) -> Option<usize> {
+    fn step(diagram: &BitDiagram<'_>, feature: usize, place: usize, value: usize) -> Option<usize> {
+        let (counts, records) = (diagram.counts, diagram.records);
         if feature >= counts.len() || value >= counts[feature] as usize {
             return None;
         }
-        let base = bases[feature];
+        let base = diagram.index[feature];
         if !may_stand(records, base, place) {
             return None;
         }
-        let end = bases[feature + 1];
+        let end = diagram.index[feature + 1];
         place_of(follow_bits(records, base, end, value, place))
     }
 }

@@ -3,8 +3,10 @@ ghost use Rattle.std.specs.Prelude.{◌+◌, ⊤, length, Decides};
 ghost use Rattle.node.specs.Columns.{Reads, column_form, column_step, LeadsTo, HighAllowed, LowAllowed};
 ghost use Rattle.diagram_books.specs.ColumnBooks.{column_well_once, column_false_starts, column_lawful, no_index_once};
 
+use crate::columns::{ColumnDiagram, ColumnTable};
 use crate::forms::Node;
 use crate::links::Link;
+use crate::sized::SizedTable;
 use diagram::ColumnNode;
 
 // Whether a link leads to a record of the column. Constant time.
@@ -18,21 +20,22 @@ fn leads_to(records: &[ColumnNode], column: usize, link: usize) -> bool
 }
 
 // Whether high leads to a record of the next column, or to 1 in the last one. Constant time.
-fn high_allowed(counts: &[u32], records: &[ColumnNode], node: &ColumnNode) -> bool
-    ensures { Decides result (HighAllowed counts.now records.now node.now) }
+fn high_allowed(table: &ColumnTable<'_>, node: &ColumnNode) -> bool
+    ensures { Decides result (HighAllowed table.now.counts.now table.now.records.now node.now) }
 {
     let next = node.column as usize + 1;
-    if next < counts.len() {
-        leads_to(records, next, node.high as usize)
+    if next < table.counts.len() {
+        leads_to(table.records, next, node.high as usize)
     } else {
         matches!(Link::of(node.high as usize), Link::True)
     }
 }
 
 // Whether low is 0, or leads to a record of the same column with a greater value. Constant time.
-fn low_allowed(records: &[ColumnNode], node: &ColumnNode) -> bool
-    ensures { Decides result (LowAllowed records.now node.now) }
+fn low_allowed(table: &ColumnTable<'_>, node: &ColumnNode) -> bool
+    ensures { Decides result (LowAllowed table.now.records.now node.now) }
 {
+    let records = table.records;
     let column = node.column as usize;
     match Link::of(node.low as usize) {
         Link::False => true,
@@ -62,31 +65,31 @@ impl Node<()> for ColumnNode {
 
     fn index(_counts: &[u32]) {}
 
-    fn exists(&self, counts: &[u32], _index: &()) -> bool {
+    fn exists(&self, sized: &SizedTable<'_, ColumnNode, ()>) -> bool {
+        let counts = sized.table.counts;
         let column = self.column as usize;
         column < counts.len() && self.value < counts[column]
     }
 
-    fn linked(&self, counts: &[u32], records: &[ColumnNode]) -> bool {
-        high_allowed(counts, records, self) && low_allowed(records, self)
+    fn linked(&self, table: &ColumnTable<'_>) -> bool {
+        high_allowed(table, self) && low_allowed(table, self)
     }
 
-    fn starts(records: &[ColumnNode], start: u32) -> bool {
-        let start = start as usize;
+    fn starts(table: &ColumnTable<'_>) -> bool {
+        let start = table.start as usize;
         match Link::of(start) {
             Link::False => true,
-            Link::True | Link::Record(_) => leads_to(records, 0, start),
+            Link::True | Link::Record(_) => leads_to(table.records, 0, start),
         }
     }
 
     fn step(
-        _counts: &[u32],
-        _index: &(),
-        records: &[ColumnNode],
+        diagram: &ColumnDiagram<'_>,
         feature: usize,
         place: usize,
         value: usize,
     ) -> Option<usize> {
+        let records = diagram.records;
         if !leads_to(records, feature, place) {
             return None;
         }
