@@ -5,7 +5,3 @@ use Rattle.node.specs.Bits.{base_of}
 -- the first bits of the features stand in a row, and behind them the number of all bits
 abbrev pub Based : List ℕ → List ℕ → Type 0
 Based ds bases = (f : ℕ) → f ≤ length ds → slice_index bases f ≡ base_of ds f
-
--- the bases are an index of at most 24 features
-abbrev pub Indexed : List ℕ → List ℕ → Type 0
-Indexed ds bases = (length ds ≤ 24) × Based ds bases

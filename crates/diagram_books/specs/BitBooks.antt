@@ -5,12 +5,12 @@ use Rattle.std.proofs.Props.{props}
 use Rattle.book.specs.Books.{BookLaws}
 use Rattle.diagram.specs.declared.BitNode.{BitNode}
 use Rattle.node.specs.Forms.{Well, book_of}
-use Rattle.diagram_books.specs.Bases.{Indexed}
+use Rattle.diagram_books.specs.Bases.{Based}
 use Rattle.node.specs.Bits.{Reaches, bit_form, bit_of, bit_step}
 use Rattle.node.proofs.BitLaws.{bit_laws}
 
-pub bit_indexed_once : (ds bases : List ℕ) → IsProp (Indexed ds bases)
-bit_indexed_once ds bases = hlevel props
+pub based_once : (ds bases : List ℕ) → IsProp (Based ds bases)
+based_once ds bases = hlevel props
 
 pub bit_well_once : (ds : List ℕ) (rs : List BitNode) (start : ℕ) → IsProp (Well bit_form ds rs start)
 bit_well_once ds rs start = hlevel props

@@ -1,7 +1,7 @@
 // What is asked of a record of a bit diagram, and how a walk steps.
 ghost use Rattle.node.specs.Bits.{Reaches, bit_form, bit_of, bit_step};
-ghost use Rattle.diagram_books.specs.Bases.{Indexed};
-ghost use Rattle.diagram_books.specs.BitBooks.{bit_well_once, bit_indexed_once, bit_false_starts, bit_lawful};
+ghost use Rattle.diagram_books.specs.Bases.{Based};
+ghost use Rattle.diagram_books.specs.BitBooks.{bit_well_once, based_once, bit_false_starts, bit_lawful};
 
 use crate::bits::follow::{comes, follow_bits, may_stand};
 use crate::bits::widths::bit_bases;
@@ -14,7 +14,7 @@ use diagram::BitNode;
 impl Node<[usize; 25]> for BitNode {
     ghost form = { bit_form };
 
-    ghost indexed = { Indexed };
+    ghost indexed = { Based };
 
     ghost step = { bit_step };
 
@@ -22,7 +22,7 @@ impl Node<[usize; 25]> for BitNode {
 
     ghost well_once = { bit_well_once };
 
-    ghost indexed_once = { bit_indexed_once };
+    ghost indexed_once = { based_once };
 
     ghost false_starts = { bit_false_starts };
 

@@ -16,5 +16,5 @@ follow_bits-requires-clause-few c = grind (arith, widths_more, width_few)
 
 pub returns : goal.returns
 returns c =
-    let step = step_by _ _ _ c.args.diagram.now.well c.args.feature c.args.place c.args.value _ _ c.if-feature-counts.false c.if-value-counts.false (c.args.diagram.now.known.1 _ (omega arith)) (c.args.diagram.now.known.1 _ (omega arith)) (sym c.may_stand.ensures ∙ c.if-not-may_stand.false) in
+    let step = step_by _ _ _ c.args.diagram.now.well c.args.feature c.args.place c.args.value _ _ c.if-feature-counts.false c.if-value-counts.false (c.args.diagram.now.known _ (omega arith)) (c.args.diagram.now.known _ (omega arith)) (sym c.may_stand.ensures ∙ c.if-not-may_stand.false) in
     c.place_of.ensures ∙ ap place_of_link c.follow_bits.ensures ∙ step
