@@ -14,4 +14,4 @@ pub returns : goal.returns
 returns g c =
     let t = c.args.self.now.table in
     records_all t.source t.counts.now g.N.Node.form t.records.now
-    (λ k h. let past = c.loop-i-test.false in c.loop-i.invariant k (omega arith)) Accepts _ refl
+    (λ k h. c.loop-i.invariant k (omega arith)) Accepts _ refl
