@@ -20,14 +20,6 @@ use Rattle.catalogue.proofs.Held.{counts_held, valued}
 use Rattle.catalogue.specs.Desk.{Taken, Within, Unread, blank}
 use Rattle.places.specs.Surveys.{AsksContent, AsksKind, AsksTables, first_records}
 
--- a row that has each feature's values is that of the values
-pub all_valued : (fs : List Feature) (ds : List ℕ) (d : Feature) → length ds ≡ length fs → ((k : ℕ) → k < length fs → get_or ds k 0 ≡ (get_or fs k d).values) → ds ≡ valued fs
-all_valued fs ds d size each =
-    same_lists ds (valued fs) (size ∙ sym (length-map fs (λ f. f.values)))
-    (λ k e h.
-    let in' : k < length fs = subst (λ (n : ℕ). k < n) size h in
-    get_or_default ds k e 0 h ∙ each k in' ∙ sym (get_or-map (λ f. f.values) fs k d e in'))
-
 -- the records that were read
 pub records_found : (k : Kind) (rs : RecordsOf k) (bs : List BitNode) (cs : List ColumnNode) → first_records k (record_count k rs) (bits_over k rs bs) (columns_over k rs cs) ≡ rs
 records_found Bit rs bs cs = take-append_seam rs (drop (length rs) bs)
@@ -35,45 +27,32 @@ records_found Column rs bs cs = take-append_seam rs (drop (length rs) cs)
 
 -- the tables are asked what the catalogue is asked
 pub asked_found : (c : Content) (t : Tables) (r : Option Told) → AsksTables (contents c) (full c t).features (full c t).bits (full c t).columns r → AsksContent c r
-asked_found c t r h =
-    subst (λ rs. AsksKind c.kind (map (λ x. x.values) c.features) rs c.start r) (records_found c.kind c.records t.bits t.columns)
-    (subst (λ ds. AsksKind c.kind ds (first_records c.kind (record_count c.kind c.records) (full c t).bits (full c t).columns) c.start r) (counts_held c t) h)
+asked_found c t r h = rw (counts_held c t, records_found c.kind c.records t.bits t.columns) at h
 
 -- a catalogue that fits has few records of either kind
 pub records_few : (k : Kind) (rs : RecordsOf k) (t : Tables) (m : ℕ) → length t.bits ≡ m → length t.columns ≡ m → RecordsFit k rs t → record_count k rs ≤ m
-records_few Bit rs t m b c fits = subst (λ (n : ℕ). length rs ≤ n) b fits
-records_few Column rs t m b c fits = subst (λ (n : ℕ). length rs ≤ n) c fits
+records_few Bit rs t m b c fits = omega (arith, fits)
+records_few Column rs t m b c fits = omega (arith, fits)
 
 -- a table of either kind is asked what the tables are asked
 module _ (c : Contents) (fs : List Feature) (bs : List BitNode) (cs : List ColumnNode) (ds : List ℕ) (r : Option Told) where
   pub bit_asked : (rs : List BitNode) → c.kind ≡ Bit → ds ≡ take c.features (valued fs) → rs ≡ take c.records bs → AsksTable Catalogue bit_form ds rs c.start r → AsksTables c fs bs cs r
-  bit_asked rs kind counts records h =
-      subst (λ (k : Kind). AsksKind k (take c.features (valued fs)) (first_records k c.records bs cs) c.start r) (sym kind)
-      (subst (λ (xs : List BitNode). AsksTable Catalogue bit_form (take c.features (valued fs)) xs c.start r) records
-      (subst (λ (xs : List ℕ). AsksTable Catalogue bit_form xs rs c.start r) counts h))
+  bit_asked rs kind counts records h = rw (kind, ← counts, ← records) h
 
   pub column_asked : (rs : List ColumnNode) → c.kind ≡ Column → ds ≡ take c.features (valued fs) → rs ≡ take c.records cs → AsksTable Catalogue column_form ds rs c.start r → AsksTables c fs bs cs r
-  column_asked rs kind counts records h =
-      subst (λ (k : Kind). AsksKind k (take c.features (valued fs)) (first_records k c.records bs cs) c.start r) (sym kind)
-      (subst (λ (xs : List ColumnNode). AsksTable Catalogue column_form (take c.features (valued fs)) xs c.start r) records
-      (subst (λ (xs : List ℕ). AsksTable Catalogue column_form xs rs c.start r) counts h))
+  column_asked rs kind counts records h = rw (kind, ← counts, ← records) h
 
 -- a text that was taken is not too long
 pub taken_short : (bs : List ℕ) (t u : Tables) (k : Contents) → Taken bs t u (Ok k) → Within bs t u (Ok k)
-taken_short bs t u k = ⊎_elim (λ w. w) (λ (w : Unread bs t u (Ok k)). absurd (let never : ◌≡◌ {A = Option Told} None (Some (file_fault 17 0)) = w.too_long.refused in cc))
+taken_short bs t u k = ⊎_elim (λ w. w) (λ (w : Unread bs t u (Ok k)). absurd (let refused = w.too_long.refused in cc))
 
 -- what an accepted text leaves in the program's tables
 module _ (bs : List ℕ) (after : Tables) (k : Contents) (a : Accepted bs blank after k) where
   pub features_at_most : k.features ≤ 24
-  features_at_most = subst (λ (x : Contents). x.features ≤ 24) (sym a.result) a.fits.features
+  features_at_most = rw a.result a.fits.features
 
   pub records_at_most : k.records ≤ 64
-  records_at_most =
-      subst (λ (x : Contents). x.records ≤ 64) (sym a.result)
-      (records_few a.content.kind a.content.records blank 64 refl refl a.fits.records)
+  records_at_most = rw a.result (records_few a.content.kind a.content.records blank 64 refl refl a.fits.records)
 
   pub asked_of : (r : Option Told) → AsksTables k after.features after.bits after.columns r → AsksContent a.content r
-  asked_of r h =
-      asked_found a.content blank r
-      (subst (λ (x : Contents). AsksTables x (full a.content blank).features (full a.content blank).bits (full a.content blank).columns r) a.result
-      (subst (λ (u : Tables). AsksTables k u.features u.bits u.columns r) a.tables h))
+  asked_of r h = asked_found a.content blank r (rw (a.tables, a.result) at h)
