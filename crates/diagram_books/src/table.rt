@@ -15,6 +15,38 @@ pub struct Table<'a, N> {
     pub source: Source,
 }
 
+impl<'a, N> Table<'a, N> {
+    // A table that was read from a catalogue: its faults name lines. Constant time.
+    pub fn of_catalogue(counts: &'a [u32], records: &'a [N], start: u32) -> Table<'a, N>
+        ensures counts { result.counts.now ≡ counts.now }
+        ensures records { result.records.now ≡ records.now }
+        ensures start { result.start ≡ start }
+        ensures source { result.source ≡ Source.Catalogue }
+    {
+        Table {
+            counts,
+            records,
+            start,
+            source: Source::Catalogue,
+        }
+    }
+
+    // A table that was made in memory: its faults have line 0. Constant time.
+    pub fn in_memory(counts: &'a [u32], records: &'a [N], start: u32) -> Table<'a, N>
+        ensures counts { result.counts.now ≡ counts.now }
+        ensures records { result.records.now ≡ records.now }
+        ensures start { result.start ≡ start }
+        ensures source { result.source ≡ Source.Memory }
+    {
+        Table {
+            counts,
+            records,
+            start,
+            source: Source::Memory,
+        }
+    }
+}
+
 impl<'a, N: Copy> Table<'a, N> {
     // Are there 1 to 24 features, each with 1 to 16 values? One step a feature.
     fn ask_features(&self) -> Result<(), Fault>

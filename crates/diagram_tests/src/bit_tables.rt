@@ -1,16 +1,17 @@
 // Bit tables that are refused, and the question that refuses each.
-use crate::tables::{BITS, COUNTS, bit, made, read, refused};
+use crate::tables::{BITS, COUNTS, bit, refused};
 use book::RuleBook;
 use diagram::BitNode;
 use diagram_books::bits::BitDiagram;
 use diagram_books::bits::widths::bit_width;
+use diagram_books::table::Table;
 use fault::Fault;
 use std::test::Fail;
 
 // What the check says of a table with four values and one of two: bits 0 and 1, and bit 2.
 // One for each form, since the trait that tells the forms apart is private to the crate of both.
 fn outcome<'a>(records: &'a [BitNode], start: u32) -> Result<BitDiagram<'a>, Fault> {
-    read(&[4, 1, 2], records, start).check()
+    Table::of_catalogue(&[4, 1, 2], records, start).check()
 }
 
 // The fewest bits for each number of values.
@@ -66,7 +67,7 @@ fn starts(rt: HostRuntime) -> Result<(), Fail> {
 #[test]
 fn memory(rt: HostRuntime) -> Result<(), Fail> {
     let records = [bit(0, 0, 9)];
-    let checked = made(&[4, 1, 2], &records, 2).check();
+    let checked = Table::in_memory(&[4, 1, 2], &records, 2).check();
     refused(&rt, checked, 4, 0, 0)?;
     let book = checked.unwrap_or(BitDiagram::nothing());
     assert_eq!(rt; book.features(), 1);
@@ -77,7 +78,7 @@ fn memory(rt: HostRuntime) -> Result<(), Fail> {
 // The example's book has the same table.
 #[test]
 fn example(rt: HostRuntime) -> Result<(), Fail> {
-    let book = made(COUNTS, BITS, 2).check()?;
+    let book = Table::in_memory(COUNTS, BITS, 2).check()?;
     assert_eq!(rt; book.features(), 3);
     assert_eq!(rt; book.values(0), 3);
     assert_eq!(rt; book.values(2), 2);

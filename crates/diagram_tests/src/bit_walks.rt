@@ -1,12 +1,13 @@
 // Steps and walks through bit diagrams.
-use crate::tables::{BITS, COUNTS, bit, made};
+use crate::tables::{BITS, COUNTS, bit};
 use book::{RuleBook, is_full, is_permitted, walk};
+use diagram_books::table::Table;
 use std::test::Fail;
 
 // Each full set of the example: all but size 2 with finish 1.
 #[test]
 fn example(rt: HostRuntime) -> Result<(), Fail> {
-    let book = made(COUNTS, BITS, 2).check()?;
+    let book = Table::in_memory(COUNTS, BITS, 2).check()?;
     for size in 0..3 {
         for finish in 0..2 {
             for card in 0..2 {
@@ -30,7 +31,7 @@ fn example(rt: HostRuntime) -> Result<(), Fail> {
 // Each step of the example that matters: from a record, from one of an earlier or a later feature, from 1 and from 0.
 #[test]
 fn steps(rt: HostRuntime) -> Result<(), Fail> {
-    let book = made(COUNTS, BITS, 2).check()?;
+    let book = Table::in_memory(COUNTS, BITS, 2).check()?;
     for (feature, place, value, next) in [
         (0, 2, 0, Some(1)),
         (0, 2, 1, Some(1)),
@@ -61,7 +62,7 @@ fn weights(rt: HostRuntime) -> Result<(), Fail> {
     // three features of 1, 4 and 1 values, and one of 16: bits 0 and 1, then bits 2 to 5
     let counts = [1, 4, 1, 16];
     let records = [bit(0, 0, 3), bit(3, 0, 4), bit(5, 1, 0)];
-    let book = made(&counts, &records, 2).check()?;
+    let book = Table::in_memory(&counts, &records, 2).check()?;
     for second in 0..4 {
         for fourth in 0..16 {
             let permitted = second % 2 == 1 && fourth / 2 % 2 == 1 && fourth < 8;
@@ -81,7 +82,7 @@ fn starts(rt: HostRuntime) -> Result<(), Fail> {
         (1, [true, true, true, true]),
         (2, [false, true, false, true]),
     ] {
-        let book = made(&counts, &records, start).check()?;
+        let book = Table::in_memory(&counts, &records, start).check()?;
         let [none, second, first, both] = sets;
         assert_eq!(rt; is_permitted(&book, &[0, 0]), none);
         assert_eq!(rt; is_permitted(&book, &[0, 1]), second);

@@ -1,15 +1,16 @@
 // Column tables that are refused, and the question that refuses each.
-use crate::tables::{column, made, read, refused};
+use crate::tables::{column, refused};
 use book::RuleBook;
 use diagram::ColumnNode;
 use diagram_books::columns::ColumnDiagram;
+use diagram_books::table::Table;
 use fault::Fault;
 use std::test::Fail;
 
 // What the check says of a table with columns of three and two values.
 // One for each form, since the trait that tells the forms apart is private to the crate of both.
 fn outcome<'a>(records: &'a [ColumnNode], start: u32) -> Result<ColumnDiagram<'a>, Fault> {
-    read(&[3, 2], records, start).check()
+    Table::of_catalogue(&[3, 2], records, start).check()
 }
 
 // A column and a value that exist or not, at the record's line, and before the record's links are looked at.
@@ -111,7 +112,7 @@ fn starts(rt: HostRuntime) -> Result<(), Fail> {
 #[test]
 fn memory(rt: HostRuntime) -> Result<(), Fail> {
     let records = [column(1, 0, 0, 0)];
-    let checked = made(&[3, 2], &records, 0).check();
+    let checked = Table::in_memory(&[3, 2], &records, 0).check();
     refused(&rt, checked, 4, 0, 0)?;
     let book = checked.unwrap_or(ColumnDiagram::nothing());
     assert_eq!(rt; book.features(), 1);

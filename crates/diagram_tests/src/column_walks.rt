@@ -1,7 +1,8 @@
 // Steps and walks through column diagrams.
-use crate::tables::{COUNTS, column, made};
+use crate::tables::{COUNTS, column};
 use book::{RuleBook, is_permitted, walk};
 use diagram::ColumnNode;
+use diagram_books::table::Table;
 use std::test::Fail;
 
 // The example's column form permits what its bit form permits.
@@ -17,7 +18,7 @@ fn example(rt: HostRuntime) -> Result<(), Fail> {
         column(2, 0, 1, 9),
         column(2, 1, 1, 0),
     ];
-    let book = made(COUNTS, &records, 2).check()?;
+    let book = Table::in_memory(COUNTS, &records, 2).check()?;
     assert_eq!(rt; book.features(), 3);
     assert_eq!(rt; book.places(), 10);
     for size in 0..3 {
@@ -61,7 +62,7 @@ fn chain_of_all() -> [ColumnNode; 16] {
 #[test]
 fn chain(rt: HostRuntime) -> Result<(), Fail> {
     let records = chain_of_all();
-    let book = made(&[16], &records, 2).check()?;
+    let book = Table::in_memory(&[16], &records, 2).check()?;
     for value in 0..16 {
         assert_eq!(rt; book.step(0, 2, value), Some(1));
         assert_eq!(rt; book.step(0, 10, value).is_some(), value >= 8);
@@ -77,7 +78,7 @@ fn starts(rt: HostRuntime) -> Result<(), Fail> {
     let records = [column(0, 0, 4, 3), column(0, 1, 4, 0), column(1, 0, 1, 0)];
     let counts = [2, 1];
     for (start, first, second) in [(0, false, false), (2, true, true), (3, false, true)] {
-        let book = made(&counts, &records, start).check()?;
+        let book = Table::in_memory(&counts, &records, start).check()?;
         assert_eq!(rt; is_permitted(&book, &[0, 0]), first);
         assert_eq!(rt; is_permitted(&book, &[1, 0]), second);
     }

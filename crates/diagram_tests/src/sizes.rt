@@ -1,5 +1,5 @@
 // How many features, values and records a table may have, for both forms.
-use crate::tables::{bit, column, made, read, refused};
+use crate::tables::{bit, column, refused};
 use book::RuleBook;
 use diagram::{BitNode, ColumnNode};
 use diagram_books::source::Source;
@@ -41,8 +41,8 @@ fn feature_counts(rt: HostRuntime) -> Result<(), Fail> {
 fn value_counts(rt: HostRuntime) -> Result<(), Fail> {
     for (third, passes) in [(0, false), (1, true), (16, true), (17, false)] {
         let counts = [16, 1, third, 0];
-        let bits = read::<BitNode>(&counts[0..3], &[], 1);
-        let columns = read::<ColumnNode>(&counts[0..3], &[], 0);
+        let bits = Table::<'_, BitNode>::of_catalogue(&counts[0..3], &[], 1);
+        let columns = Table::<'_, ColumnNode>::of_catalogue(&counts[0..3], &[], 0);
         if passes {
             bits.check()?;
             columns.check()?;
@@ -51,25 +51,41 @@ fn value_counts(rt: HostRuntime) -> Result<(), Fail> {
             refused(&rt, columns.check(), 1, 2, 5)?;
         }
     }
-    refused(&rt, made(&[0, 17], &[bit(9, 9, 9)], 9).check(), 1, 0, 0)
+    refused(
+        &rt,
+        Table::in_memory(&[0, 17], &[bit(9, 9, 9)], 9).check(),
+        1,
+        0,
+        0,
+    )
 }
 
 // 2,046 records pass, and 2,047 are refused at the line of their count.
 #[test]
 fn record_counts(rt: HostRuntime) -> Result<(), Fail> {
     let bits = [bit(0, 0, 1); 2047];
-    assert_eq!(rt; read(&[2], &bits[0..2046], 2).check()?.places(), 2048);
-    refused(&rt, read(&[2], &bits, 2).check(), 2, 0, 4)?;
+    assert_eq!(rt;
+        Table::of_catalogue(&[2], &bits[0..2046], 2)
+            .check()?
+            .places(),
+        2048
+    );
+    refused(&rt, Table::of_catalogue(&[2], &bits, 2).check(), 2, 0, 4)?;
     let columns = [column(0, 1, 1, 0); 2047];
-    assert_eq!(rt; read(&[2], &columns[0..2046], 2).check()?.places(), 2048);
-    refused(&rt, read(&[2], &columns, 2).check(), 2, 0, 4)
+    assert_eq!(rt;
+        Table::of_catalogue(&[2], &columns[0..2046], 2)
+            .check()?
+            .places(),
+        2048
+    );
+    refused(&rt, Table::of_catalogue(&[2], &columns, 2).check(), 2, 0, 4)
 }
 
 // Too many records are refused before any of them is looked at.
 #[test]
 fn records_unseen(rt: HostRuntime) -> Result<(), Fail> {
     let bits = [bit(9, 9, 9); 2047];
-    refused(&rt, read(&[2], &bits, 2).check(), 2, 0, 4)?;
+    refused(&rt, Table::of_catalogue(&[2], &bits, 2).check(), 2, 0, 4)?;
     let columns = [column(9, 9, 9, 9); 2047];
-    refused(&rt, read(&[2], &columns, 2).check(), 2, 0, 4)
+    refused(&rt, Table::of_catalogue(&[2], &columns, 2).check(), 2, 0, 4)
 }

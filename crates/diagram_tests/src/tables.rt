@@ -1,7 +1,5 @@
 // Tables, and what a check answers.
 use diagram::{BitNode, ColumnNode};
-use diagram_books::source::Source;
-use diagram_books::table::Table;
 use fault::Fault;
 use std::process::Abort;
 use std::test::Fail;
@@ -38,25 +36,6 @@ pub(crate) fn column(column: u32, value: u32, high: u32, low: u32) -> ColumnNode
         value,
         high,
         low,
-    }
-}
-
-// A table of either form that was read from a catalogue, and one that was made in memory.
-pub(crate) fn read<'a, N>(counts: &'a [u32], records: &'a [N], start: u32) -> Table<'a, N> {
-    Table {
-        counts,
-        records,
-        start,
-        source: Source::Catalogue,
-    }
-}
-
-pub(crate) fn made<'a, N>(counts: &'a [u32], records: &'a [N], start: u32) -> Table<'a, N> {
-    Table {
-        counts,
-        records,
-        start,
-        source: Source::Memory,
     }
 }
 

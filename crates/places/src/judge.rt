@@ -6,7 +6,6 @@ ghost use Rattle.places.specs.Surveys.{AsksTables};
 use book::RuleBook;
 use catalogue::desk::DeskTables;
 use catalogue::entries::{Contents, Feature, Kind};
-use diagram_books::source::Source;
 use diagram_books::table::Table;
 use fault::Fault;
 
@@ -15,21 +14,6 @@ fn value_counts(features: &[Feature; 24]) -> [u32; 24]
     ensures { result ≡ map (λ f. f.values) features.now }
 {
     features.map(|feature| feature.values)
-}
-
-// A table of either form that was read from a catalogue. Constant time.
-fn table<'a, N>(counts: &'a [u32], records: &'a [N], start: u32) -> Table<'a, N>
-    ensures counts { result.counts.now ≡ counts.now }
-    ensures records { result.records.now ≡ records.now }
-    ensures start { result.start ≡ start }
-    ensures source { result.source ≡ Source.Catalogue }
-{
-    Table {
-        counts,
-        records,
-        start,
-        source: Source::Catalogue,
-    }
 }
 
 // The number of places of a rule book, if the check of its table passed. Constant time.
@@ -48,11 +32,23 @@ pub(crate) fn judge(contents: &Contents, tables: &DeskTables) -> Result<usize, F
     ensures asked { AsksTables contents.now tables.now.features tables.now.bits tables.now.columns (refusal result) }
     ensures places { IfOk result (λ p. p ≡ contents.now.records + 2) }
 {
+    let Contents {
+        kind,
+        features,
+        records,
+        start,
+        ..
+    } = *contents;
     let counts = value_counts(&tables.features);
-    let counts = &counts[..contents.features];
-    let end = contents.records;
-    match contents.kind {
-        Kind::Bit => places_of(table(counts, &tables.bits[..end], contents.start).check()),
-        Kind::Column => places_of(table(counts, &tables.columns[..end], contents.start).check()),
+    let counts = &counts[..features];
+    match kind {
+        Kind::Bit => {
+            let table = Table::of_catalogue(counts, &tables.bits[..records], start);
+            places_of(table.check())
+        }
+        Kind::Column => {
+            let table = Table::of_catalogue(counts, &tables.columns[..records], start);
+            places_of(table.check())
+        }
     }
 }
