@@ -24,7 +24,8 @@ impl fmt::Display for Kind {
     }
 }
 
-// A feature: where its name stands in the text, how many bytes it has, and how many values the feature has.
+// A feature: where its name stands in the text, how many bytes it has, and how many values the feature has. The name is no
+// slice, since a lent table may live longer than the text.
 #[derive(Clone, Copy, Debug, PartialEq)]
 pub struct Feature {
     pub place: usize,

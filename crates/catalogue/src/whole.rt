@@ -26,6 +26,7 @@ pub fn read(
     let mut reader = Reader::new(text);
     let kind = entry::<Kind>(&mut reader)?;
     let feature_count = section(&mut reader, features)?;
+    // the two tables are of two types, so that a match picks one, and no closure could
     let record_count = match kind {
         Kind::Bit => section(&mut reader, bits)?,
         Kind::Column => section(&mut reader, columns)?,

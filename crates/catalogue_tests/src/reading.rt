@@ -64,6 +64,7 @@ pub(crate) fn read_in(text: &[u8], rooms: [usize; 5]) -> Result<Contents, Fault>
     read_into(text, rooms).0
 }
 
+// As in the tests of diagrams, whose faults have a place too; what is compiled for tests alone no other crate can use.
 // Holds an answer to a refusal with this number and line, and with place 0.
 pub(crate) fn refused(
     rt: &impl Abort,

@@ -21,11 +21,11 @@ impl fmt::Display for Layer {
     ghost output = { λ l. Some (layer_name l) };
 
     fn fmt<W: fmt::Write>(&self, f: &mut fmt::Formatter<W>) -> fmt::Result {
-        match self {
-            Layer::File => write!(f, "file"),
-            Layer::Table => write!(f, "table"),
-            Layer::Slip => write!(f, "slip"),
-        }
+        f.write_str(match self {
+            Layer::File => "file",
+            Layer::Table => "table",
+            Layer::Slip => "slip",
+        })
     }
 }
 

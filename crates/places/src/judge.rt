@@ -41,6 +41,7 @@ pub(crate) fn judge(contents: &Contents, tables: &DeskTables) -> Result<usize, F
     } = *contents;
     let counts = value_counts(&tables.features);
     let counts = &counts[..features];
+    // the two tables are of two types, so that a match picks one, and no closure could
     match kind {
         Kind::Bit => {
             let table = Table::of_catalogue(counts, &tables.bits[..records], start);

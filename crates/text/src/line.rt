@@ -15,7 +15,8 @@ pub enum Token<'a> {
     Word(&'a [u8]),
 }
 
-// What a field has to be: a name, a number, or any word.
+// What a field has to be: a name, a number, or any word. An enum and no closure, since `Is` has to say of each kind which
+// token comes.
 #[derive(Clone, Copy, Debug)]
 pub enum Want {
     Name,
@@ -52,6 +53,8 @@ impl<'a> Line<'a> {
         let line = self.number;
         Fault::IllFormedLine { line }
     }
+
+    // What a call takes of a line is said by `Passed`, in one word: it ties two states of the line, as no field of it can.
 
     // The next field, whatever it holds. One step a byte of it.
     fn field(&mut self) -> Result<&'a [u8], Fault>
