@@ -1,12 +1,12 @@
 -- A table of bits that keeps the rules keeps the laws of a rule book.
-use Rattle.std.proofs.Common.{◌≡◌, ℕ, suc, ◌+◌, ◌-◌, ◌<◌, ◌≤◌, Bool, true, false, cond, ◌&&◌, eqb, ltb, leb, List, [], ◌∷◌, length, get_or, is_some, Some, None, Option, sym, refl, ap, ◌∙◌, subst, ⊎_elim, arith, take_all}
+use Rattle.std.proofs.Common.{◌≡◌, ℕ, suc, ◌+◌, ◌-◌, ◌<◌, ◌≤◌, Bool, true, false, cond, ltb, List, [], ◌∷◌, length, get_or, is_some, Some, None, Option, sym, refl, ap, ◌∙◌, ⊎_elim, arith, take_all}
 use Rattle.std.proofs.lemmas.List.{get_or_past}
 use Rattle.std.proofs.lemmas.Bool.Decides.{nat_tests}
-use Rattle.std.proofs.lemmas.Bool.{and_from, and_parts, cases_eq, cases_lt, cond-true, cond-false, cond_both, eq-eqb, ne_eqb, eqb-false, false≢true, le-leb, leb-true, lt-ltb, ltb-true, or_cases, or_left, or_right}
-use Rattle.book.specs.Books.{BookLaws, FullSet, walk_of, walk_from}
+use Rattle.std.proofs.lemmas.Bool.{cases_lt, cond-true, lt-ltb, ltb-true}
+use Rattle.book.specs.Books.{BookLaws, FullSet, walk_of}
 use Rattle.diagram.specs.declared.BitNode.{BitNode}
 use Rattle.node.specs.Forms.{Well, place_of_link}
-use Rattle.node.specs.Bits.{Comes, Ordered, Reaches, done, base_of, behind, bit_book, bit_form, bit_of, bit_step, digit, follow, opens, width_of, widths}
+use Rattle.node.specs.Bits.{Comes, Ordered, Reaches, done, base_of, bit_book, bit_form, bit_of, bit_step, digit, follow, opens, width_of, widths}
 use Rattle.node.proofs.BitFollows.{linked_of}
 use Rattle.node.proofs.BitReaches.{bit_of-base, reaches_some, reaches_followed, followed_reaches, followed_comes}
 use Rattle.node.proofs.Widths.{widths_more}

@@ -1,12 +1,11 @@
 -- A table of columns that passed its check keeps the laws of a rule book.
-use Rattle.std.proofs.Common.{◌≡◌, ℕ, ◌+◌, ◌-◌, ◌<◌, ◌≤◌, true, eqb, ltb, List, [], ◌∷◌, length, get_or, is_some, Some, None, Option, sym, refl, ap, ◌∙◌, subst, ⊎_elim, arith}
+use Rattle.std.proofs.Common.{◌≡◌, ℕ, ◌+◌, ◌<◌, ◌≤◌, true, List, [], ◌∷◌, length, get_or, is_some, Some, None, sym, ap, ◌∙◌, ⊎_elim, arith}
 use Rattle.std.proofs.lemmas.List.{get_or_past}
-use Rattle.std.proofs.lemmas.Bool.Decides.{nat_tests}
-use Rattle.std.proofs.lemmas.Bool.{cases_eq, cases_lt, cond_both, eqb-true, ltb-true, ltb-false, false≢true}
-use Rattle.book.specs.Books.{BookLaws, FullSet, walk_of, walk_from}
+use Rattle.std.proofs.lemmas.Bool.{cases_lt}
+use Rattle.book.specs.Books.{BookLaws, FullSet, walk_of}
 use Rattle.diagram.specs.declared.ColumnNode.{ColumnNode}
-use Rattle.node.specs.Forms.{Inside, Well, place_of_link}
-use Rattle.node.specs.Columns.{Reads, behind, chain, column_book, column_form, column_step}
+use Rattle.node.specs.Forms.{Well, place_of_link}
+use Rattle.node.specs.Columns.{Reads, column_book, column_form, column_step}
 use Rattle.node.proofs.ColumnLinks.{Linked, linked_of, at_link, step_none, step_some}
 use Rattle.node.proofs.ColumnReading.{Rest, Stands, reads_inside, chain_found, chain_stands, reads_walks, walks_reads}
 use Rattle.node.proofs.Places.{none_if, place_some, place_is, walk_some}

@@ -1,12 +1,11 @@
 -- What a diagram reads is what a walk passes.
-use Rattle.std.proofs.Common.{◌≡◌, ℕ, zero, suc, ◌+◌, ◌<◌, ◌≤◌, true, List, [], ◌∷◌, length, get_or, is_some, Some, None, Option, sym, refl, ap, ◌∙◌, subst, ⊎_elim, arith}
-use Rattle.std.proofs.lemmas.Bool.{cases_eq, false≢true}
+use Rattle.std.proofs.Common.{◌≡◌, ℕ, zero, suc, ◌+◌, ◌<◌, ◌≤◌, true, List, [], ◌∷◌, length, get_or, Some, sym, refl, ap, ◌∙◌, ⊎_elim, arith}
+use Rattle.std.proofs.lemmas.Bool.{cases_eq}
 use Rattle.diagram.specs.declared.ColumnNode.{ColumnNode}
-use Rattle.book.specs.Books.{walk_from}
 use Rattle.node.specs.Columns.{Reads, done, chosen, passed, behind, chain, column_book, column_step}
 use Rattle.node.specs.Forms.{Inside}
 use Rattle.node.proofs.Places.{passes, walk_some}
-use Rattle.node.proofs.ColumnLinks.{chain_some, Linked, at_link, chain_here, chain_past, chain_none, step_chain}
+use Rattle.node.proofs.ColumnLinks.{chain_some, Linked, at_link, chain_here, chain_past, step_chain}
 
 pub reads_inside : {rs : List ColumnNode} {l x : ℕ} {xs : List ℕ} → Reads rs l (x ∷ xs) → Inside rs l
 reads_inside (chosen i e r) = i

@@ -1,8 +1,7 @@
 -- How many bits there are.
-use Rattle.std.proofs.Common.{◌≡◌, ℕ, ◌+◌, ◌*◌, ◌^◌, ◌<◌, ◌≤◌, leb, List, [], ◌∷◌, ◌++◌, length, get_or, take, set, ap, ◌∙◌, ⊎_elim, arith, length-take, get_or-set_other, get_or-set_same, pow_mono}
+use Rattle.std.proofs.Common.{◌≡◌, ℕ, ◌+◌, ◌*◌, ◌^◌, ◌<◌, ◌≤◌, List, [], ◌∷◌, ◌++◌, length, get_or, take, set, ap, ◌∙◌, arith, length-take, get_or-set_other, get_or-set_same, pow_mono}
 use Rattle.std.proofs.lemmas.List.{take_more}
 use Rattle.std.proofs.lemmas.Bool.Decides.{nat_tests}
-use Rattle.std.proofs.lemmas.Bool.{cases_eq, cases_lt, cond_both, leb-true, leb-false}
 use Rattle.node.specs.Bits.{Fewest, base_of, widths, width_of}
 
 widths_push : (ds : List ℕ) (d : ℕ) → widths (ds ++ (d ∷ [])) ≡ widths ds + width_of d

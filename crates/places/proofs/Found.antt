@@ -1,9 +1,7 @@
 -- What stands in the tables of a catalogue that was read.
-use Rattle.std.proofs.Common.{◌≡◌, ℕ, ◌+◌, ◌<◌, ◌≤◌, List, map, length, get_or, take, drop, IfOk, Ok, Err, Some, None, Option, Result, sym, refl, ap, ◌∙◌, subst, ⊎_elim, arith, length-take}
+use Rattle.std.proofs.Common.{◌≡◌, ℕ, ◌≤◌, List, length, take, drop, Ok, Option, refl, ⊎_elim, arith}
 use lib.Seq.{take-append_seam}
-use Rattle.std.proofs.lemmas.List.{get_or_default, get_or-map, length-map, same_lists}
-use Rattle.fault.specs.declared.Fault.{Fault}
-use Rattle.fault.specs.Told.{Told, file_fault}
+use Rattle.fault.specs.Told.{Told}
 use Rattle.node.specs.Bits.{bit_form}
 use Rattle.node.specs.Columns.{column_form}
 use Rattle.diagram_books.specs.declared.source.Source.TheVariants.{Catalogue}
@@ -18,7 +16,7 @@ use Rattle.catalogue.specs.Content.{Content, RecordsFit, RecordsOf, Tables}
 use Rattle.catalogue.specs.Whole.{Accepted, bits_over, columns_over, contents, full, record_count}
 use Rattle.catalogue.proofs.Held.{counts_held, valued}
 use Rattle.catalogue.specs.Desk.{Taken, Within, Unread, blank}
-use Rattle.places.specs.Surveys.{AsksContent, AsksKind, AsksTables, first_records}
+use Rattle.places.specs.Surveys.{AsksContent, AsksTables, first_records}
 
 -- the records that were read
 pub records_found : (k : Kind) (rs : RecordsOf k) (bs : List BitNode) (cs : List ColumnNode) → first_records k (record_count k rs) (bits_over k rs bs) (columns_over k rs cs) ≡ rs

@@ -1,4 +1,4 @@
-use Rattle.std.proofs.Common.{◌+◌, get_or, arith, length-set}
+use Rattle.std.proofs.Common.{get_or, arith, length-set}
 use Rattle.node.proofs.Widths.{base_few, bases_more, width_few, widths_more}
 use Rattle.diagram_books.proofs.bits.widths.bit_bases.Goals as goal
 

@@ -1,7 +1,7 @@
-use Rattle.std.proofs.Common.{◌+◌, ◌<◌, length, get_or, sym, ap, ◌∙◌, arith}
+use Rattle.std.proofs.Common.{sym, ap, ◌∙◌, arith}
 use Rattle.node.specs.Forms.{place_of_link}
 use Rattle.node.proofs.BitFollows.{linked_of}
-use Rattle.node.proofs.BitLaws.{opens_some, step_by}
+use Rattle.node.proofs.BitLaws.{step_by}
 use Rattle.node.proofs.Widths.{width_few, widths_more}
 use Rattle.diagram_books.proofs.bits.questions.BitNodeNodeArrayUsize25.step.Goals as goal
 
