@@ -18,7 +18,7 @@ pub trait RuleBook {
     fn features(&self) -> usize
         ensures { result ≡ (book self.now).features };
 
-    // How many values a feature has, 1 to 16; 0 where there is no such feature.
+    // How many values a feature has, 1 to 16; 0 where there is no such feature, and no Option, so that no value is below it.
     fn values(&self, feature: usize) -> usize
         ensures { result ≡ (book self.now).values feature };
 

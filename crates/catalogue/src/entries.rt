@@ -56,7 +56,7 @@ pub enum Call {
 }
 
 // What a catalogue says besides its tables: the form, how many entries each table has, and the start link.
-// The counts stand here and not in slices: no value can borrow the tables and the contract also say what they then hold.
+// Counts and no slices: a slice would borrow its table, and no contract could then say what the table holds.
 #[derive(Clone, Copy, Debug, PartialEq)]
 pub struct Contents {
     pub kind: Kind,

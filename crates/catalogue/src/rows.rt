@@ -52,7 +52,8 @@ impl Row for One {
     }
 }
 
-// Here and below a pattern takes the numbers apart: of a closure that does so `map` says nothing.
+// Three impls for rows of numbers, since each names fields of its own; by a pattern, since of a closure that takes an array
+// apart `map` says nothing.
 impl Row for u32 {
     ghost form = { number_form };
 

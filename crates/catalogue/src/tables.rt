@@ -8,7 +8,8 @@ use crate::whole::read;
 use diagram::{BitNode, ColumnNode};
 use fault::Fault;
 
-// A table for each section, and one for each form of record, with room for so many entries.
+// A table for each section, with room for so many entries. The records have two, of which a catalogue fills the one of its
+// kind: a walk then reads plain fields, and tells no case apart at each step.
 #[derive(Drop)]
 pub struct Tables<
     const FEATURES: usize,

@@ -8,7 +8,8 @@ use crate::sized::SizedTable;
 use crate::table::Table;
 
 // A record of one form of diagram: what is asked of it, and how a walk steps from it. An index, of type I, is what is worked
-// out of the value counts once, so that no step has to.
+// out of the value counts once, so that no step has to: a parameter, since a struct that holds an associated type is not
+// `Copy`. The trait is for this crate alone: it stands in a private module.
 pub trait Node<I: Copy>: Copy {
     // What is asked of the records and of the start link.
     ghost form: { Form Self };

@@ -18,7 +18,7 @@ pub struct Diagram<'a, N: Node<I>, I: Copy> {
     ghost known: { N.indexed counts.now index } by { N.indexed_once counts.now index },
 }
 
-// A copy is the same rule book. Written out, since no derive knows what a struct of this kind keeps.
+// A copy is the same rule book. By hand: no derive gives `Clone` to a struct with type parameters and ghost fields.
 impl<'a, N: Node<I>, I: Copy> Clone for Diagram<'a, N, I> {
     ghost is_infallible = { λ _. ⊤ };
 

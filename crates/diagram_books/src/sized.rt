@@ -19,17 +19,17 @@ pub struct SizedTable<'a, N: Node<I>, I: Copy> {
 
 impl<'a, N: Node<I>, I: Copy> SizedTable<'a, N, I> {
     // Does what record i tests exist, and are both its links allowed? Constant time.
-    fn ask_record(&self, i: usize, record: &N) -> Result<(), Fault>
+    fn ask_record(&self, i: usize, node: &N) -> Result<(), Fault>
         requires within { i < length self.now.table.records.now }
-        requires same { record.now ≡ slice_index_or self.now.table.records.now i N.form.blank }
+        requires same { node.now ≡ slice_index_or self.now.table.records.now i N.form.blank }
         ensures { AsksRecord self.now.table.source N.form self.now.table.counts.now self.now.table.records.now i Accepts (refusal result) }
     {
         let Table { counts, source, .. } = self.table;
         let line = source.line(4 + counts.len() + i);
-        if !record.exists(self) {
+        if !node.exists(self) {
             return Err(Fault::NoSuchTest { record: i, line });
         }
-        if !record.linked(&self.table) {
+        if !node.linked(&self.table) {
             return Err(Fault::BadLink { record: i, line });
         }
         Ok(())
@@ -39,8 +39,8 @@ impl<'a, N: Node<I>, I: Copy> SizedTable<'a, N, I> {
     fn ask_records(&self) -> Result<(), Fault>
         ensures { AsksRecords self.now.table.source N.form self.now.table.counts.now self.now.table.records.now Accepts (refusal result) }
     {
-        for (i, record) in self.table.records.iter().enumerate() {
-            self.ask_record(i, record)?;
+        for (i, node) in self.table.records.iter().enumerate() {
+            self.ask_record(i, node)?;
         }
         Ok(())
     }

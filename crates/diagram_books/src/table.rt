@@ -48,7 +48,8 @@ impl<'a, N> Table<'a, N> {
 }
 
 impl<'a, N: Copy> Table<'a, N> {
-    // Are there 1 to 24 features, each with 1 to 16 values? One step a feature.
+    // Are there 1 to 24 features, each with 1 to 16 values? One step a feature. Two comparisons each, since of a range's
+    // `contains` no proof was found here.
     fn ask_features(&self) -> Result<(), Fault>
         ensures { AsksFeatures self.now.source self.now.counts.now Accepts (refusal result) }
     {

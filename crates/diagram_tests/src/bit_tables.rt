@@ -18,8 +18,8 @@ fn outcome<'a>(records: &'a [BitNode], start: u32) -> Result<BitDiagram<'a>, Fau
 #[test]
 fn widths(rt: HostRuntime) {
     let fewest = [0, 0, 1, 2, 2, 3, 3, 3, 3, 4, 4, 4, 4, 4, 4, 4, 4];
-    for (values, bits) in fewest.iter().enumerate() {
-        assert_eq!(rt; bit_width(values as u32), *bits);
+    for (values, bits) in (0..17).zip(fewest) {
+        assert_eq!(rt; bit_width(values), bits);
     }
 }
 

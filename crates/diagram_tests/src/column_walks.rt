@@ -49,7 +49,7 @@ fn example(rt: HostRuntime) -> Result<(), Fail> {
     Ok(())
 }
 
-// A chain of 16 records, from value 0 to value 15.
+// A chain of 16 records, from value 0 to value 15: record v has the low link v + 3, to the record after it; the last has none.
 fn chain_of_all() -> [ColumnNode; 16] {
     let mut records = [column(0, 15, 1, 0); 16];
     for (record, (value, low)) in records.iter_mut().zip((0..15).zip(3..18)) {

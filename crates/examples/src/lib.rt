@@ -8,7 +8,7 @@ use product::Example;
 
 pub mod product;
 
-// A table of bit nodes, each by its bit, low link and high link.
+// A table of bit nodes, each by its bit, low link and high link. A macro, since a constant may call no function.
 macro_rules! bit_nodes {
     ($(($bit:literal, $low:literal, $high:literal)),*) => {
         [$(BitNode { bit: $bit, low: $low, high: $high }),*]

@@ -18,6 +18,7 @@ opened rs b l some c = grind (arith, nat_tests)
 pub opens_some : (rs : List BitNode) (b l : ℕ) → opens rs b l ≡ true → (1 ≤ l) × Comes rs b l × (l < length rs + 2)
 opens_some rs b l e = (grind (arith, nat_tests), λ t. grind (arith, nat_tests), grind (arith, nat_tests))
 
+-- what comes of three tests that all have to pass
 guarded : (a b c : Bool) (o : Option ℕ) (q : ℕ) → cond a (cond b (cond c o None) None) None ≡ Some q → (a ≡ true) × (b ≡ true) × (c ≡ true) × (o ≡ Some q)
 guarded true true true o q e = (refl, refl, refl, e)
 guarded true true false o q e = absurd (cc)

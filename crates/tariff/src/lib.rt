@@ -42,8 +42,8 @@ pub trait Tariff {
     fn join(a: Self::Cost, b: Self::Cost) -> Self::Cost
         ensures { result ≡ costs.join a b };
 
-    // Whether the first cost is not dearer than the second. Constant time. No default says `a <= b`, since that would ask
-    // each cost type for an order of its own, and each tariff for a law that it is the order of `costs`.
+    // Whether the first cost is not dearer than the second. Constant time. No default says `a <= b`: each tariff
+    // would then owe a law that the order of its cost type is that of `costs`, which is more to write than this.
     fn not_dearer(a: Self::Cost, b: Self::Cost) -> bool
         ensures { result ≡ costs.le a b };
 

@@ -11,7 +11,7 @@ pub(crate) fn comes(records: &[BitNode], bit: usize, link: usize) -> bool
 {
     match Link::of(link) {
         Link::False | Link::True => true,
-        Link::Record(r) => r < records.len() && bit <= records[r].bit as usize,
+        Link::Record(r) => records.get(r).is_some_and(|node| bit <= node.bit as usize),
     }
 }
 

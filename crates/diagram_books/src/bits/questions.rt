@@ -7,7 +7,7 @@ use crate::bits::follow::{comes, follow_bits, may_stand};
 use crate::bits::widths::bit_bases;
 use crate::bits::{BitDiagram, BitTable};
 use crate::forms::Node;
-use crate::links::{Link, place_of};
+use crate::links::place_of;
 use crate::sized::SizedTable;
 use diagram::BitNode;
 
@@ -44,10 +44,7 @@ impl Node<[usize; 25]> for BitNode {
     }
 
     fn starts(table: &BitTable<'_>) -> bool {
-        match Link::of(table.start as usize) {
-            Link::False | Link::True => true,
-            Link::Record(r) => r < table.records.len(),
-        }
+        comes(table.records, 0, table.start as usize)
     }
 
     fn step(diagram: &BitDiagram<'_>, feature: usize, place: usize, value: usize) -> Option<usize> {

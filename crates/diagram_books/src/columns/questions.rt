@@ -15,7 +15,9 @@ fn leads_to(records: &[ColumnNode], column: usize, link: usize) -> bool
 {
     match Link::of(link) {
         Link::False | Link::True => false,
-        Link::Record(r) => r < records.len() && records[r].column as usize == column,
+        Link::Record(r) => records
+            .get(r)
+            .is_some_and(|node| node.column as usize == column),
     }
 }
 
@@ -35,14 +37,13 @@ fn high_allowed(table: &ColumnTable<'_>, node: &ColumnNode) -> bool
 fn low_allowed(table: &ColumnTable<'_>, node: &ColumnNode) -> bool
     ensures { Decides result (LowAllowed table.now.records.now node.now) }
 {
-    let records = table.records;
-    let column = node.column as usize;
     match Link::of(node.low as usize) {
         Link::False => true,
         Link::True => false,
-        Link::Record(r) => {
-            leads_to(records, column, node.low as usize) && node.value < records[r].value
-        }
+        Link::Record(r) => table
+            .records
+            .get(r)
+            .is_some_and(|next| next.column == node.column && node.value < next.value),
     }
 }
 
@@ -66,9 +67,8 @@ impl Node<()> for ColumnNode {
     fn index(_counts: &[u32]) {}
 
     fn exists(&self, sized: &SizedTable<'_, ColumnNode, ()>) -> bool {
-        let counts = sized.table.counts;
-        let column = self.column as usize;
-        column < counts.len() && self.value < counts[column]
+        let count = sized.table.counts.get(self.column as usize);
+        count.is_some_and(|count| self.value < *count)
     }
 
     fn linked(&self, table: &ColumnTable<'_>) -> bool {

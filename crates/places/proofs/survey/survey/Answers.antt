@@ -1,7 +1,7 @@
 use Rattle.std.proofs.Common.{ap, ◌∙◌, ⊎_elim, inl, inr}
 use Rattle.fault.proofs.Exits.{passed_on}
 use Rattle.fault.specs.Questions.{refusal}
-use Rattle.places.proofs.Found.{asked_of, features_at_most, records_at_most, taken_short}
+use Rattle.places.proofs.Found.{asked_of, records_at_most, taken_short}
 use Rattle.places.proofs.survey.survey.Goals as goal
 
 pub returns-in_err-contents : goal.returns-in_err-contents
@@ -12,10 +12,9 @@ returns-in_err-contents c =
     (λ w. inr (inr (record { long = w.too_long.long; refused = ap refusal e ∙ w.too_long.refused })))
     (rw c.blank-tables.ensures at c.in_err-contents.ensures)
 
-pub judge-requires : goal.judge-requires
-judge-requires c =
-    let a = (taken_short _ _ _ _ (rw c.blank-tables.ensures at c.in_ok-contents.ensures)).judged in
-    record { few_features = features_at_most _ _ _ a; few_records = records_at_most _ _ _ a }
+pub judge-requires-clause-few_records : goal.judge-requires-clause-few_records
+judge-requires-clause-few_records c =
+    records_at_most _ _ _ (taken_short _ _ _ _ (rw c.blank-tables.ensures at c.in_ok-contents.ensures)).judged
 
 pub returns : goal.returns
 returns c =
