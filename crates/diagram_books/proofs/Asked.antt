@@ -1,5 +1,5 @@
 -- How the questions of a table are answered.
-use Rattle.std.proofs.Common.{◌≡◌, ℕ, ◌<◌, ◌≤◌, List, length, get_or, Some, None, Option, refl, ap, inl, inr}
+use Rattle.std.proofs.Common.{◌≡◌, ℕ, ◌<◌, ◌≤◌, List, length, get_or, Some, None, Option, refl, inl, inr}
 use Rattle.fault.specs.Told.{Told, table_fault}
 use Rattle.fault.specs.Questions.{Chain, Asks, AsksEach, Accepts}
 use Rattle.fault.proofs.Chains.{Asks_on, Asks_pass, each_on, each_all, each_stop, each_pass, refused}
@@ -9,7 +9,7 @@ use Rattle.diagram_books.specs.Checks.{line_in, feature_line, record_count_line,
 
 -- a question that is answered by no, where the fault names the line l
 pub stopped : (Yes : Type 0) (rest : Chain) (n place l l' : ℕ) → (Yes → ⊥) → l ≡ l' → Asks (table_fault n place l') Yes rest (Some (table_fault n place l))
-stopped Yes rest n place l l' never e = inr (never, ap (λ (m : ℕ). Some (table_fault n place m)) e)
+stopped Yes rest n place l l' never e = inr (never, cc)
 
 module _ (s : Source) (ds : List ℕ) where
   abbrev AskValues : ℕ → Chain → Chain
