@@ -19,10 +19,19 @@ use Rattle.catalogue.specs.declared.entries.One.{One}
 use Rattle.catalogue.specs.Forms.{Form, line_of, Lawful, number_form}
 use Rattle.catalogue.specs.Sections.{section_lines, section_layout, line_layout, placed, entries, over, filled, Entered, Section, NoSection}
 use Rattle.catalogue.specs.Content.{kind_form, one_form, feature_form, bit_form, column_form, call_form, RecordsOf, RecordsGood, RecordsFit, record_lines, Content, Tables}
-use Rattle.catalogue.specs.Whole.{bit_table, column_table, record_count, contents, Recorded, NotRecorded}
+use Rattle.catalogue.specs.Whole.{bit_table, column_table, record_count, contents}
 use Rattle.catalogue.specs.NumberLaws.{number_lawful, bit_lawful, column_lawful}
 use Rattle.catalogue.proofs.Filled.{line_coded, line_lines_clean, section_coded, section_clean, placed-length, rows_same, counts_same, take-placed}
 use Rattle.catalogue.specs.WordLaws.{kind_lawful, one_lawful, feature_lawful, call_lawful}
+
+-- the section of the records is read, or refused, and the table of the other form is as it was
+abbrev pub Recorded : Kind → Reader → Reader → List BitNode → List BitNode → List ColumnNode → List ColumnNode → ℕ → Type 0
+Recorded Bit a b bits bits' columns columns' n = Section bit_form a b bits bits' n × (columns' ≡ columns)
+Recorded Column a b bits bits' columns columns' n = Section column_form a b columns columns' n × (bits' ≡ bits)
+
+abbrev pub NotRecorded : Kind → Reader → List BitNode → List BitNode → List ColumnNode → List ColumnNode → Fault → Type 0
+NotRecorded Bit a bits bits' columns columns' f = NoSection bit_form a bits bits' f × (columns' ≡ columns)
+NotRecorded Column a bits bits' columns columns' f = NoSection column_form a columns columns' f × (bits' ≡ bits)
 
 -- a line that fills no table
 abbrev pub line_part : {E : Type 0} → Form E → Part Tables

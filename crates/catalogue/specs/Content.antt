@@ -12,6 +12,7 @@ use Rattle.catalogue.specs.declared.entries.Feature.{Feature}
 use Rattle.catalogue.specs.declared.entries.Kind.{Kind}
 use Rattle.catalogue.specs.declared.entries.Kind.TheVariants.{Bit, Column}
 use Rattle.catalogue.specs.declared.entries.One.{One}
+use Rattle.catalogue.specs.declared.tables.Tables as Lent
 use Rattle.catalogue.specs.Forms.{Form, line_of, numbers_form, number_form}
 use Rattle.catalogue.specs.Sections.{section_lines}
 
@@ -97,6 +98,10 @@ pub record Tables : Type 0 where
 
 abbrev pub lent : List Feature → List BitNode → List ColumnNode → List ℕ → List Call → Tables
 lent fs bs cs ps ks = record { features = fs; bits = bs; columns = cs; prices = ps; calls = ks }
+
+-- the same of tables that are one struct
+abbrev pub lent_of : {features records prices calls : ℕ} → Lent.Tables features records prices calls → Tables
+lent_of t = lent t.features t.bits t.columns t.prices t.calls
 
 -- tables before anything is read, with room for so many features, records of either form, prices and calls
 abbrev pub blank_tables : ℕ → ℕ → ℕ → ℕ → Tables

@@ -4,7 +4,6 @@ use Rattle.diagram.specs.declared.BitNode.{BitNode}
 use Rattle.diagram.specs.declared.ColumnNode.{ColumnNode}
 use Rattle.fault.specs.declared.Fault.{Fault}
 use Rattle.fault.specs.Told.{told}
-use Rattle.text.specs.declared.reader.Reader.{Reader}
 use Rattle.text.specs.Lines.{ended, text_of}
 use Rattle.text.specs.Layouts.{Refused, Surplus}
 use Rattle.catalogue.specs.declared.entries.Contents.{Contents}
@@ -12,7 +11,7 @@ use Rattle.catalogue.specs.declared.entries.Feature.{Feature}
 use Rattle.catalogue.specs.declared.entries.Kind.{Kind}
 use Rattle.catalogue.specs.declared.entries.Kind.TheVariants.{Bit, Column}
 use Rattle.catalogue.specs.Forms.{line_of, number_form}
-use Rattle.catalogue.specs.Sections.{section_lines, entries, over, filled, Section, NoSection}
+use Rattle.catalogue.specs.Sections.{section_lines, entries, over, filled}
 use Rattle.catalogue.specs.Content.{kind_form, Named, feature_form, bit_form, column_form, RecordsOf, record_lines, Content, Tables, lines, Good, Fits, catalogue_layout}
 
 -- the entries of the features, whose section begins after line 1
@@ -80,15 +79,6 @@ contents c = record {
   prices = length c.prices;
   calls = length c.calls;
 }
-
--- the section of the records is read, or refused, and the table of the other form is as it was
-abbrev pub Recorded : Kind → Reader → Reader → List BitNode → List BitNode → List ColumnNode → List ColumnNode → ℕ → Type 0
-Recorded Bit a b bits bits' columns columns' n = Section bit_form a b bits bits' n × (columns' ≡ columns)
-Recorded Column a b bits bits' columns columns' n = Section column_form a b columns columns' n × (bits' ≡ bits)
-
-abbrev pub NotRecorded : Kind → Reader → List BitNode → List BitNode → List ColumnNode → List ColumnNode → Fault → Type 0
-NotRecorded Bit a bits bits' columns columns' f = NoSection bit_form a bits bits' f × (columns' ≡ columns)
-NotRecorded Column a bits bits' columns columns' f = NoSection column_form a columns columns' f × (bits' ≡ bits)
 
 -- the bytes that a feature's entry points at
 abbrev pub name_in : List ℕ → Feature → List ℕ

@@ -1,5 +1,5 @@
 // What a program lends to the catalogue that it is given: tables of fixed sizes, for a text of limited length.
-ghost use Rattle.catalogue.specs.Content.{lent};
+ghost use Rattle.catalogue.specs.Content.{lent_of};
 ghost use Rattle.catalogue.specs.Desk.{Taken};
 
 use crate::entries::Contents;
@@ -16,9 +16,7 @@ impl DeskTables {
     // Reads the catalogue that `text` is into these tables; a text of over 16,384 bytes is refused unread. One step a byte of
     // the text; nothing is allocated.
     pub fn take(&mut self, text: &[u8]) -> Result<Contents, Fault>
-        ensures { Taken text.now
-            (lent self.old.features self.old.bits self.old.columns self.old.prices self.old.calls)
-            (lent self.new.features self.new.bits self.new.columns self.new.prices self.new.calls) result }
+        ensures { Taken text.now (lent_of self.old) (lent_of self.new) result }
     {
         if text.len() > LIMIT {
             return Err(Fault::TableTooSmall { line: 0 });

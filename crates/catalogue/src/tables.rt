@@ -1,6 +1,6 @@
 // The tables of a catalogue, together.
 ghost use Rattle.std.specs.Prelude.{◌≡◌};
-ghost use Rattle.catalogue.specs.Content.{lent, blank_tables};
+ghost use Rattle.catalogue.specs.Content.{lent_of, blank_tables};
 ghost use Rattle.catalogue.specs.Whole.{Judged};
 
 use crate::entries::{Call, Contents, Feature};
@@ -32,8 +32,7 @@ impl<const FEATURES: usize, const RECORDS: usize, const PRICES: usize, const CAL
 > {
     // Tables of zeros, in which each call is a lift. One step an entry.
     pub fn blank() -> Self
-        ensures { lent result.features result.bits result.columns result.prices result.calls
-            ≡ blank_tables FEATURES RECORDS PRICES CALLS }
+        ensures { lent_of result ≡ blank_tables FEATURES RECORDS PRICES CALLS }
     {
         Tables {
             features: [Feature {
@@ -59,9 +58,7 @@ impl<const FEATURES: usize, const RECORDS: usize, const PRICES: usize, const CAL
 
     // Reads the catalogue that `text` is into these tables. One step a byte of the text; nothing is allocated.
     pub fn read(&mut self, text: &[u8]) -> Result<Contents, Fault>
-        ensures { Judged text.now
-            (lent self.old.features self.old.bits self.old.columns self.old.prices self.old.calls)
-            (lent self.new.features self.new.bits self.new.columns self.new.prices self.new.calls) result }
+        ensures { Judged text.now (lent_of self.old) (lent_of self.new) result }
     {
         read(
             text,

@@ -1,5 +1,5 @@
 // Bit tables that are refused, and the question that refuses each.
-use crate::tables::{BITS, COUNTS, bit, refused};
+use crate::tables::{bit, refused};
 use book::RuleBook;
 use diagram::BitNode;
 use diagram_books::bits::BitDiagram;
@@ -78,7 +78,8 @@ fn memory(rt: HostRuntime) -> Result<(), Fail> {
 // The example's book has the same table.
 #[test]
 fn example(rt: HostRuntime) -> Result<(), Fail> {
-    let book = Table::in_memory(COUNTS, BITS, 2).check()?;
+    let product = examples::example();
+    let book = Table::in_memory(&product.counts, &product.bits, product.start).check()?;
     assert_eq!(rt; book.features(), 3);
     assert_eq!(rt; book.values(0), 3);
     assert_eq!(rt; book.values(2), 2);

@@ -1,5 +1,5 @@
 // Steps and walks through bit diagrams.
-use crate::tables::{BITS, COUNTS, bit};
+use crate::tables::{bit, holds_example};
 use book::{RuleBook, is_full, is_permitted, walk};
 use diagram_books::table::Table;
 use std::test::Fail;
@@ -7,16 +7,9 @@ use std::test::Fail;
 // Each full set of the example: all but size 2 with finish 1.
 #[test]
 fn example(rt: HostRuntime) -> Result<(), Fail> {
-    let book = Table::in_memory(COUNTS, BITS, 2).check()?;
-    for size in 0..3 {
-        for finish in 0..2 {
-            for card in 0..2 {
-                let set = [size, finish, card];
-                assert!(rt; is_full(&book, &set));
-                assert_eq!(rt; is_permitted(&book, &set), size < 2 || finish == 0);
-            }
-        }
-    }
+    let product = examples::example();
+    let book = Table::in_memory(&product.counts, &product.bits, product.start).check()?;
+    holds_example(&rt, &book);
     assert!(rt; !is_permitted(&book, &[3, 0, 0]));
     assert!(rt; !is_permitted(&book, &[0, 0]));
     assert!(rt; !is_full(&book, &[0, 0, 0, 0]));
@@ -31,7 +24,8 @@ fn example(rt: HostRuntime) -> Result<(), Fail> {
 // Each step of the example that matters: from a record, from one of an earlier or a later feature, from 1 and from 0.
 #[test]
 fn steps(rt: HostRuntime) -> Result<(), Fail> {
-    let book = Table::in_memory(COUNTS, BITS, 2).check()?;
+    let product = examples::example();
+    let book = Table::in_memory(&product.counts, &product.bits, product.start).check()?;
     for (feature, place, value, next) in [
         (0, 2, 0, Some(1)),
         (0, 2, 1, Some(1)),

@@ -1,5 +1,5 @@
 // Steps and walks through column diagrams.
-use crate::tables::{COUNTS, column};
+use crate::tables::{column, holds_example};
 use book::{RuleBook, is_permitted, walk};
 use diagram::ColumnNode;
 use diagram_books::table::Table;
@@ -8,27 +8,11 @@ use std::test::Fail;
 // The example's column form permits what its bit form permits.
 #[test]
 fn example(rt: HostRuntime) -> Result<(), Fail> {
-    let records = [
-        column(0, 0, 5, 3),
-        column(0, 1, 5, 4),
-        column(0, 2, 7, 0),
-        column(1, 0, 8, 6),
-        column(1, 1, 8, 0),
-        column(1, 0, 8, 0),
-        column(2, 0, 1, 9),
-        column(2, 1, 1, 0),
-    ];
-    let book = Table::in_memory(COUNTS, &records, 2).check()?;
+    let product = examples::example();
+    let book = Table::in_memory(&product.counts, &product.columns, product.start).check()?;
     assert_eq!(rt; book.features(), 3);
     assert_eq!(rt; book.places(), 10);
-    for size in 0..3 {
-        for finish in 0..2 {
-            for card in 0..2 {
-                let permitted = size < 2 || finish == 0;
-                assert_eq!(rt; is_permitted(&book, &[size, finish, card]), permitted);
-            }
-        }
-    }
+    holds_example(&rt, &book);
     assert_eq!(rt; walk(&book, &[0, 1, 1]), Some(1));
     assert_eq!(rt; walk(&book, &[2]), Some(7));
     for (feature, place, value, next) in [

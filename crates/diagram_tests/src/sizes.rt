@@ -1,7 +1,8 @@
 // How many features, values and records a table may have, for both forms.
 use crate::tables::{bit, column, refused};
 use book::RuleBook;
-use diagram::{BitNode, ColumnNode};
+use diagram_books::bits::BitTable;
+use diagram_books::columns::ColumnTable;
 use diagram_books::source::Source;
 use diagram_books::table::Table;
 use std::test::Fail;
@@ -12,13 +13,13 @@ fn feature_counts(rt: HostRuntime) -> Result<(), Fail> {
     let counts = [1; 25];
     for (n, passes) in [(0, false), (1, true), (24, true), (25, false)] {
         for (source, line) in [(Source::Memory, 0), (Source::Catalogue, 2)] {
-            let bits: Table<'_, BitNode> = Table {
+            let bits: BitTable<'_> = Table {
                 counts: &counts[0..n],
                 records: &[],
                 start: 1,
                 source,
             };
-            let columns: Table<'_, ColumnNode> = Table {
+            let columns: ColumnTable<'_> = Table {
                 counts: &counts[0..n],
                 records: &[],
                 start: 0,
@@ -41,8 +42,8 @@ fn feature_counts(rt: HostRuntime) -> Result<(), Fail> {
 fn value_counts(rt: HostRuntime) -> Result<(), Fail> {
     for (third, passes) in [(0, false), (1, true), (16, true), (17, false)] {
         let counts = [16, 1, third, 0];
-        let bits = Table::<'_, BitNode>::of_catalogue(&counts[0..3], &[], 1);
-        let columns = Table::<'_, ColumnNode>::of_catalogue(&counts[0..3], &[], 0);
+        let bits = BitTable::of_catalogue(&counts[0..3], &[], 1);
+        let columns = ColumnTable::of_catalogue(&counts[0..3], &[], 0);
         if passes {
             bits.check()?;
             columns.check()?;

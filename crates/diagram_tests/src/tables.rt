@@ -1,30 +1,9 @@
 // Tables, and what a check answers.
+use book::{RuleBook, is_full, is_permitted};
 use diagram::{BitNode, ColumnNode};
 use fault::Fault;
 use std::process::Abort;
 use std::test::Fail;
-
-// The example of the catalogue's documentation: three sizes, two finishes, a code card or none; all goes together but
-// size 2 with finish 1.
-pub const COUNTS: &[u32] = &[3, 2, 2];
-
-pub const BITS: &[BitNode] = &[
-    BitNode {
-        bit: 0,
-        low: 3,
-        high: 1,
-    },
-    BitNode {
-        bit: 1,
-        low: 1,
-        high: 4,
-    },
-    BitNode {
-        bit: 2,
-        low: 1,
-        high: 0,
-    },
-];
 
 pub(crate) fn bit(bit: u32, low: u32, high: u32) -> BitNode {
     BitNode { bit, low, high }
@@ -39,6 +18,19 @@ pub(crate) fn column(column: u32, value: u32, high: u32, low: u32) -> ColumnNode
     }
 }
 
+// Holds a book to what the example permits: each full set but those of size 2 with finish 1.
+pub(crate) fn holds_example<B: RuleBook>(rt: &impl Abort, book: &B) {
+    for size in 0..3 {
+        for finish in 0..2 {
+            for card in 0..2 {
+                let set = [size, finish, card];
+                assert!(rt; is_full(book, &set));
+                assert_eq!(rt; is_permitted(book, &set), size < 2 || finish == 0);
+            }
+        }
+    }
+}
+
 // Holds an outcome to a refusal with this number, place and line.
 pub(crate) fn refused<T: Drop>(
     rt: &impl Abort,
@@ -47,13 +39,11 @@ pub(crate) fn refused<T: Drop>(
     place: usize,
     line: usize,
 ) -> Result<(), Fail> {
-    match outcome {
-        Ok(_) => Err(Fail::new("accepted")),
-        Err(fault) => {
-            assert_eq!(rt; fault.number(), number);
-            assert_eq!(rt; fault.place(), place);
-            assert_eq!(rt; fault.line(), line);
-            Ok(())
-        }
-    }
+    let Err(fault) = outcome else {
+        return Err(Fail::new("accepted"));
+    };
+    assert_eq!(rt; fault.number(), number);
+    assert_eq!(rt; fault.place(), place);
+    assert_eq!(rt; fault.line(), line);
+    Ok(())
 }

@@ -1,6 +1,7 @@
 -- How many bits there are.
-use Rattle.std.proofs.Common.{◌≡◌, ℕ, ◌+◌, ◌*◌, ◌^◌, ◌<◌, ◌≤◌, List, [], ◌∷◌, ◌++◌, length, get_or, take, set, ap, ◌∙◌, arith, length-take, get_or-set_other, get_or-set_same, pow_mono}
-use Rattle.std.proofs.lemmas.List.{take_more}
+use Rattle.std.proofs.Common.{◌≡◌, ℕ, ◌+◌, ◌*◌, ◌^◌, ◌<◌, ◌≤◌, List, [], ◌∷◌, ◌++◌, length, get_or, take, set, ap, ◌∙◌, ⊎_elim, arith, length-take, get_or-set_other, get_or-set_same, pow_mono}
+use Rattle.std.proofs.lemmas.List.{get_or_past, take_more}
+use Rattle.std.proofs.lemmas.Bool.{cases_lt}
 use Rattle.std.proofs.lemmas.Bool.Decides.{nat_tests}
 use Rattle.node.specs.Bits.{Fewest, base_of, widths, width_of}
 
@@ -41,3 +42,7 @@ base_few ds f few =
 -- the row of bases with one more
 pub bases_more : (ds bases : List ℕ) (i : ℕ) → i < length ds → i + 1 < length bases → ((f : ℕ) → f ≤ i → get_or bases f 0 ≡ base_of ds f) → (b : ℕ) → b ≡ base_of ds (i + 1) → (f : ℕ) → f ≤ i + 1 → get_or (set bases (i + 1) b) f 0 ≡ base_of ds f
 bases_more ds bases i within room so_far b e f h = grind (arith, get_or-set_other, get_or-set_same)
+
+-- a value below the count of a feature: there is such a feature
+pub valued_within : (ds : List ℕ) (f v : ℕ) → v < get_or ds f 0 → f < length ds
+valued_within ds f v h = ⊎_elim (λ within. within) (λ (past : length ds ≤ f). let none = get_or_past ds f 0 past in absurd (omega arith)) (cases_lt f (length ds))

@@ -25,7 +25,7 @@ mod tests {
     use std::process::Abort;
     use std::test::Fail;
 
-    // What a report prints of a text.
+    // What a report prints of a text; as in the tests of `counter`, which this crate cannot see.
     fn hold(rt: &impl Abort, heap: Global, text: &[u8], printed: &str) -> Result<(), Fail> {
         let report = Report {
             found: survey(text).map(PlaceCount),

@@ -7,7 +7,7 @@ use crate::bits::follow::{comes, follow_bits, may_stand};
 use crate::bits::widths::bit_bases;
 use crate::bits::{BitDiagram, BitTable};
 use crate::forms::Node;
-use crate::links::place_of;
+use crate::links::{place_of, value_count};
 use crate::sized::SizedTable;
 use diagram::BitNode;
 
@@ -48,8 +48,8 @@ impl Node<[usize; 25]> for BitNode {
     }
 
     fn step(diagram: &BitDiagram<'_>, feature: usize, place: usize, value: usize) -> Option<usize> {
-        let (counts, records) = (diagram.counts, diagram.records);
-        if feature >= counts.len() || value >= counts[feature] as usize {
+        let records = diagram.records;
+        if value >= value_count(diagram.counts, feature) {
             return None;
         }
         let base = diagram.index[feature];

@@ -40,10 +40,8 @@ fn low_allowed(table: &ColumnTable<'_>, node: &ColumnNode) -> bool
     match Link::of(node.low as usize) {
         Link::False => true,
         Link::True => false,
-        Link::Record(r) => table
-            .records
-            .get(r)
-            .is_some_and(|next| next.column == node.column && node.value < next.value),
+        Link::Record(r) => table.records.get(r).is_some_and(|next| next.column == node.column
+            && node.value < next.value),
     }
 }
 

@@ -1,7 +1,6 @@
 use Rattle.fault.proofs.Exits.{passed_on}
-use Rattle.catalogue.proofs.Stages.{kind_stops, features_stop, records_stops, one_stops, start_stops, prices_stop, calls_stop, all_read, the_contents, bits_recorded, columns_recorded, bits_not_recorded, columns_not_recorded}
+use Rattle.catalogue.proofs.Stages.{Recorded, kind_stops, features_stop, records_stops, one_stops, start_stops, prices_stop, calls_stop, all_read, the_contents, bits_recorded, columns_recorded, bits_not_recorded, columns_not_recorded}
 use Rattle.catalogue.proofs.Verdicts.{denied, accepted, surplus}
-use Rattle.catalogue.specs.Whole.{Recorded}
 use Rattle.catalogue.proofs.whole.read.Goals as goal
 use Rattle.catalogue.proofs.whole.read.Goals.{After-entry-2, in-Bit+in_ok-record_count-in-Bit, in-Column+in_ok-record_count-in-Column}
 
