@@ -12,6 +12,6 @@ pub record Read (bs : List ℕ) (r : Result Contents Fault) : Type 0 where
   pub after : Tables
   pub judged : Judged bs blank after r
 
--- a longer text is refused by 17 at line 0
+-- the one or the other
 abbrev pub Surveyed : List ℕ → Result Contents Fault → Type 0
 Surveyed bs r = Read bs r ⊎ TooLong bs r

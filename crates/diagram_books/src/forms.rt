@@ -45,7 +45,8 @@ pub trait Node<I: Copy>: Copy {
     fn starts(table: &Table<'_, Self>) -> bool
         ensures { Decides result (form.starts table.now.records.now table.now.start) };
 
-    // The place after this value of this feature. At most one step a bit, or a value, of the feature.
+    // The place after this value of this feature. At most one step a bit, or a value, of the feature: 4 or
+    // 16 at most.
     fn step(
         diagram: &Diagram<'_, Self, I>,
         feature: usize,

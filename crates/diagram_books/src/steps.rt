@@ -33,7 +33,7 @@ impl<'a, N: Node<I>, I: Copy> RuleBook for Diagram<'a, N, I> {
         place_of(self.start as usize)
     }
 
-    // At most one step a bit, or a value, of the feature.
+    // At most one step a bit, or a value, of the feature: 4 or 16 at most.
     fn step(&self, feature: usize, place: usize, value: usize) -> Option<usize> {
         N::step(self, feature, place, value)
     }

@@ -50,6 +50,6 @@ pub record Unread (bs : List ℕ) (r : Result ℕ Fault) : Type 0 where
   pub denied : Denied bs blank after fault
   pub is : r ≡ Err fault
 
--- a longer text is refused by 17 at line 0
+-- one of the three
 abbrev pub Surveyed : List ℕ → Result ℕ Fault → Type 0
 Surveyed bs r = Read bs r ⊎ (Unread bs r ⊎ TooLong bs r)

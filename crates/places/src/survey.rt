@@ -3,6 +3,7 @@ ghost use Rattle.places.specs.Surveys.{Surveyed};
 
 use crate::judge::judge;
 use catalogue::desk::DeskTables;
+pub use catalogue::desk::LIMIT;
 use fault::Fault;
 
 // How many places the rule book of a catalogue has, or why the catalogue is refused: by the reader, whose text has at most
