@@ -4,9 +4,6 @@ use Rattle.std.proofs.lemmas.Bool.Decides.{nat_tests}
 use Rattle.book.specs.Books.{Book, walk_from}
 use Rattle.node.specs.Forms.{place_of_link}
 
-pub place_zero : (l : ℕ) → l ≡ 0 → place_of_link l ≡ None
-place_zero l z = grind (arith, nat_tests)
-
 pub place_some : (l : ℕ) → 1 ≤ l → place_of_link l ≡ Some l
 place_some l some = grind (arith, nat_tests)
 
