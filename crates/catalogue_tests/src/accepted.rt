@@ -54,6 +54,7 @@ fn feature(place: usize, length: usize, values: u32) -> Feature {
     }
 }
 
+// As in the tests of diagrams, which no other crate can see.
 fn bit(bit: u32, low: u32, high: u32) -> BitNode {
     BitNode { bit, low, high }
 }

@@ -1,4 +1,5 @@
--- The questions of a check in their order, with the refusal that each no leads to.
+-- The questions of a check in their order, with the refusal that each no leads to. They speak of plain lists and numbers,
+-- so that a reader need not know a struct of the code.
 use Rattle.std.specs.Prelude.{ℕ, ◌+◌, ◌≤◌, List, length, slice_index, slice_index_or}
 use Rattle.fault.specs.Told.{table_fault}
 use Rattle.fault.specs.Questions.{Chain, Asks, AsksEach, Accepts}

@@ -48,18 +48,17 @@ impl<'a, N> Table<'a, N> {
 }
 
 impl<'a, N: Copy> Table<'a, N> {
-    // Are there 1 to 24 features, each with 1 to 16 values? One step a feature. Two comparisons each, since of a range's
-    // `contains` no proof was found here.
+    // Are there 1 to 24 features, each with 1 to 16 values? One step a feature.
     fn ask_features(&self) -> Result<(), Fault>
         ensures { AsksFeatures self.now.source self.now.counts.now Accepts (refusal result) }
     {
-        if self.counts.is_empty() || self.counts.len() > 24 {
+        if !(1..=24).contains(&self.counts.len()) {
             return Err(Fault::BadFeatureCount {
                 line: self.source.line(2),
             });
         }
         for (feature, count) in self.counts.iter().enumerate() {
-            if *count == 0 || *count > 16 {
+            if !(1..=16).contains(count) {
                 return Err(Fault::BadValueCount {
                     feature,
                     line: self.source.line(3 + feature),

@@ -31,7 +31,8 @@ pub(crate) fn holds_example<B: RuleBook>(rt: &impl Abort, book: &B) {
     }
 }
 
-// Holds an outcome to a refusal with this number, place and line.
+// Holds an outcome to a refusal with this number, place and line. The tests of catalogues have one of their own, since what
+// is compiled for tests alone no other crate can use.
 pub(crate) fn refused<T: Drop>(
     rt: &impl Abort,
     outcome: Result<T, Fault>,
