@@ -121,7 +121,7 @@ fn lines(text: &[u8]) -> usize {
 // The example cut after any of its bytes is refused at the line where it stops.
 #[test]
 fn cut(rt: HostRuntime) -> Result<(), Fail> {
-    for i in 0..EXAMPLE.len() {
+    for (i, _) in EXAMPLE.iter().enumerate() {
         let front = &EXAMPLE[..i];
         refused(&rt, read_in(front, [8; 5]), 16, lines(front))?;
     }

@@ -23,7 +23,7 @@ pub trait Node<I: Copy>: Copy {
     // Which full sets a table permits: value counts, records, start link and set.
     ghost permits: { List ℕ → List Self → ℕ → List ℕ → Type 0 };
 
-    // Two facts that a rule book holds for good hold in one way only.
+    // Two facts that a rule book holds for good hold in one way only. They are no laws, since no struct could cite a law.
     ghost well_once: { (ds : List ℕ) (rs : List Self) (start : ℕ) → IsProp (Well form ds rs start) };
 
     ghost indexed_once: { (ds : List ℕ) (x : I) → IsProp (indexed ds x) };

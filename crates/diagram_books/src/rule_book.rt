@@ -7,7 +7,7 @@ use crate::forms::Node;
 use std::alloc::AllocError;
 
 // The rule book of a table. Every value of this type holds a table for which all questions are answered by yes, and the
-// index of its value counts.
+// index of its value counts. The fields are those of a table but for its source, which no step needs.
 #[derive(Copy)]
 pub struct Diagram<'a, N: Node<I>, I: Copy> {
     pub(crate) counts: &'a [u32],

@@ -31,7 +31,8 @@ impl<'a, N> Table<'a, N> {
         }
     }
 
-    // A table that was made in memory: its faults have line 0. Constant time.
+    // A table that was made in memory: its faults have line 0. Constant time. Two functions and no parameter, so that a call
+    // says where its table came from.
     pub fn in_memory(counts: &'a [u32], records: &'a [N], start: u32) -> Table<'a, N>
         ensures counts { result.counts.now ≡ counts.now }
         ensures records { result.records.now ≡ records.now }
