@@ -2,6 +2,7 @@
 use crate::reading::{
     EXAMPLE, NO_BIT, NO_CALL, NO_COLUMN, NO_FEATURE, NO_PRICE, read_in, read_into, refused,
 };
+use catalogue::desk::DeskTables;
 use catalogue::entries::{Call, Contents, Feature, Kind};
 use diagram::{BitNode, ColumnNode};
 use std::test::Fail;
@@ -166,4 +167,22 @@ fn names(rt: HostRuntime) {
     assert_eq!(rt; feature(4, 3, 1).name(b"B\nabc"), None);
     assert_eq!(rt; feature(5, 0, 1).name(b"B\nabc"), Some(b"".as_slice()));
     assert_eq!(rt; feature(18446744073709551615, 1, 1).name(b"B\nabc"), None);
+}
+
+// The tables of a program: blank, left alone by a text that is too long, and then filled.
+#[test]
+fn desk(rt: HostRuntime) -> Result<(), Fail> {
+    let mut tables = DeskTables::blank();
+    refused(&rt, tables.take(&[b'B'; 16385]), 17, 0)?;
+    assert_eq!(rt; tables.features[0], feature(0, 0, 0));
+    assert_eq!(rt; tables.prices[0], 0);
+    assert_eq!(rt; tables.calls[0], Call::Lift);
+    let contents = tables.take(EXAMPLE)?;
+    assert_eq!(rt; contents.prices, 7);
+    assert_eq!(rt; tables.features[0], feature(4, 4, 3));
+    assert_eq!(rt; tables.bits[2], bit(2, 1, 0));
+    assert_eq!(rt; tables.prices[6], 600);
+    assert_eq!(rt; tables.prices[7], 0);
+    assert_eq!(rt; tables.calls[3], Call::Lift);
+    Ok(())
 }

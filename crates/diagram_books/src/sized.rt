@@ -1,7 +1,7 @@
 // The questions on the records and the start, of a table whose sizes are allowed.
 ghost use Rattle.std.specs.Prelude.{◌≡◌, ◌<◌, ◌≤◌, length, slice_index_or};
 ghost use Rattle.fault.specs.Questions.{Accepts, refusal};
-ghost use Rattle.diagram_books.specs.Checks.{AsksRecord, AsksRecords, AsksBody};
+ghost use Rattle.diagram_books.specs.Checks.{line_in, record_line, AsksRecord, AsksRecords, AsksBody};
 
 use crate::forms::Node;
 use crate::table::Table;
@@ -18,18 +18,26 @@ pub struct SizedTable<'a, N: Node<I>, I: Copy> {
 }
 
 impl<'a, N: Node<I>, I: Copy> SizedTable<'a, N, I> {
+    // The line of record i. Constant time.
+    fn line_of(&self, i: usize) -> usize
+        requires { i < length self.now.table.records.now }
+        ensures { result ≡ line_in self.now.table.source (record_line self.now.table.counts.now i) }
+    {
+        self.table.source.line(4 + self.table.counts.len() + i)
+    }
+
     // Does what record i tests exist, and are both its links allowed? Constant time.
     fn ask_record(&self, i: usize, node: &N) -> Result<(), Fault>
         requires within { i < length self.now.table.records.now }
         requires same { node.now ≡ slice_index_or self.now.table.records.now i N.form.blank }
         ensures { AsksRecord self.now.table.source N.form self.now.table.counts.now self.now.table.records.now i Accepts (refusal result) }
     {
-        let Table { counts, source, .. } = self.table;
-        let line = source.line(4 + counts.len() + i);
         if !node.exists(self) {
+            let line = self.line_of(i);
             return Err(Fault::NoSuchTest { record: i, line });
         }
         if !node.linked(&self.table) {
+            let line = self.line_of(i);
             return Err(Fault::BadLink { record: i, line });
         }
         Ok(())

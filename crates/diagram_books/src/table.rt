@@ -16,34 +16,18 @@ pub struct Table<'a, N> {
 }
 
 impl<'a, N> Table<'a, N> {
-    // A table that was read from a catalogue: its faults name lines. Constant time.
-    pub fn of_catalogue(counts: &'a [u32], records: &'a [N], start: u32) -> Table<'a, N>
+    // The table of these counts and records, with this start link, which came from there. Constant time.
+    pub fn new(counts: &'a [u32], records: &'a [N], start: u32, source: Source) -> Table<'a, N>
         ensures counts { result.counts.now ≡ counts.now }
         ensures records { result.records.now ≡ records.now }
         ensures start { result.start ≡ start }
-        ensures source { result.source ≡ Source.Catalogue }
+        ensures source { result.source ≡ source }
     {
         Table {
             counts,
             records,
             start,
-            source: Source::Catalogue,
-        }
-    }
-
-    // A table that was made in memory: its faults have line 0. Constant time. Two functions and no parameter, so that a call
-    // says where its table came from.
-    pub fn in_memory(counts: &'a [u32], records: &'a [N], start: u32) -> Table<'a, N>
-        ensures counts { result.counts.now ≡ counts.now }
-        ensures records { result.records.now ≡ records.now }
-        ensures start { result.start ≡ start }
-        ensures source { result.source ≡ Source.Memory }
-    {
-        Table {
-            counts,
-            records,
-            start,
-            source: Source::Memory,
+            source,
         }
     }
 }

@@ -4,6 +4,7 @@ use book::RuleBook;
 use diagram::BitNode;
 use diagram_books::bits::BitDiagram;
 use diagram_books::bits::widths::bit_width;
+use diagram_books::source::Source;
 use diagram_books::table::Table;
 use fault::Fault;
 use std::test::Fail;
@@ -11,7 +12,7 @@ use std::test::Fail;
 // What the check says of a table with four values and one of two: bits 0 and 1, and bit 2.
 // One for each form, since the trait that tells the forms apart is private to the crate of both.
 fn outcome<'a>(records: &'a [BitNode], start: u32) -> Result<BitDiagram<'a>, Fault> {
-    Table::of_catalogue(&[4, 1, 2], records, start).check()
+    Table::new(&[4, 1, 2], records, start, Source::Catalogue).check()
 }
 
 // The fewest bits for each number of values.
@@ -67,7 +68,7 @@ fn starts(rt: HostRuntime) -> Result<(), Fail> {
 #[test]
 fn memory(rt: HostRuntime) -> Result<(), Fail> {
     let records = [bit(0, 0, 9)];
-    let checked = Table::in_memory(&[4, 1, 2], &records, 2).check();
+    let checked = Table::new(&[4, 1, 2], &records, 2, Source::Memory).check();
     refused(&rt, checked, 4, 0, 0)?;
     let book = checked.unwrap_or(BitDiagram::nothing());
     assert_eq!(rt; book.features(), 1);
@@ -79,7 +80,13 @@ fn memory(rt: HostRuntime) -> Result<(), Fail> {
 #[test]
 fn example(rt: HostRuntime) -> Result<(), Fail> {
     let product = examples::example();
-    let book = Table::in_memory(&product.counts, &product.bits, product.start).check()?;
+    let book = Table::new(
+        &product.counts,
+        &product.bits,
+        product.start,
+        Source::Memory,
+    )
+    .check()?;
     assert_eq!(rt; book.features(), 3);
     assert_eq!(rt; book.values(0), 3);
     assert_eq!(rt; book.values(2), 2);

@@ -1,6 +1,7 @@
 // Steps and walks through bit diagrams.
 use crate::tables::{bit, holds_example};
 use book::{RuleBook, is_full, is_permitted, walk};
+use diagram_books::source::Source;
 use diagram_books::table::Table;
 use std::test::Fail;
 
@@ -8,7 +9,13 @@ use std::test::Fail;
 #[test]
 fn example(rt: HostRuntime) -> Result<(), Fail> {
     let product = examples::example();
-    let book = Table::in_memory(&product.counts, &product.bits, product.start).check()?;
+    let book = Table::new(
+        &product.counts,
+        &product.bits,
+        product.start,
+        Source::Memory,
+    )
+    .check()?;
     holds_example(&rt, &book);
     assert!(rt; !is_permitted(&book, &[3, 0, 0]));
     assert!(rt; !is_permitted(&book, &[0, 0]));
@@ -25,7 +32,13 @@ fn example(rt: HostRuntime) -> Result<(), Fail> {
 #[test]
 fn steps(rt: HostRuntime) -> Result<(), Fail> {
     let product = examples::example();
-    let book = Table::in_memory(&product.counts, &product.bits, product.start).check()?;
+    let book = Table::new(
+        &product.counts,
+        &product.bits,
+        product.start,
+        Source::Memory,
+    )
+    .check()?;
     for (feature, place, value, next) in [
         (0, 2, 0, Some(1)),
         (0, 2, 1, Some(1)),
@@ -56,7 +69,7 @@ fn weights(rt: HostRuntime) -> Result<(), Fail> {
     // three features of 1, 4 and 1 values, and one of 16: bits 0 and 1, then bits 2 to 5
     let counts = [1, 4, 1, 16];
     let records = [bit(0, 0, 3), bit(3, 0, 4), bit(5, 1, 0)];
-    let book = Table::in_memory(&counts, &records, 2).check()?;
+    let book = Table::new(&counts, &records, 2, Source::Memory).check()?;
     for second in 0..4 {
         for fourth in 0..16 {
             let permitted = second % 2 == 1 && fourth / 2 % 2 == 1 && fourth < 8;
@@ -76,7 +89,7 @@ fn starts(rt: HostRuntime) -> Result<(), Fail> {
         (1, [true, true, true, true]),
         (2, [false, true, false, true]),
     ] {
-        let book = Table::in_memory(&counts, &records, start).check()?;
+        let book = Table::new(&counts, &records, start, Source::Memory).check()?;
         let [none, second, first, both] = sets;
         assert_eq!(rt; is_permitted(&book, &[0, 0]), none);
         assert_eq!(rt; is_permitted(&book, &[0, 1]), second);

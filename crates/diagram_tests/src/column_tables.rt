@@ -3,6 +3,7 @@ use crate::tables::{column, refused};
 use book::RuleBook;
 use diagram::ColumnNode;
 use diagram_books::columns::ColumnDiagram;
+use diagram_books::source::Source;
 use diagram_books::table::Table;
 use fault::Fault;
 use std::test::Fail;
@@ -10,7 +11,7 @@ use std::test::Fail;
 // What the check says of a table with columns of three and two values.
 // One for each form, since the trait that tells the forms apart is private to the crate of both.
 fn outcome<'a>(records: &'a [ColumnNode], start: u32) -> Result<ColumnDiagram<'a>, Fault> {
-    Table::of_catalogue(&[3, 2], records, start).check()
+    Table::new(&[3, 2], records, start, Source::Catalogue).check()
 }
 
 // A column and a value that exist or not, at the record's line, and before the record's links are looked at.
@@ -112,7 +113,7 @@ fn starts(rt: HostRuntime) -> Result<(), Fail> {
 #[test]
 fn memory(rt: HostRuntime) -> Result<(), Fail> {
     let records = [column(1, 0, 0, 0)];
-    let checked = Table::in_memory(&[3, 2], &records, 0).check();
+    let checked = Table::new(&[3, 2], &records, 0, Source::Memory).check();
     refused(&rt, checked, 4, 0, 0)?;
     let book = checked.unwrap_or(ColumnDiagram::nothing());
     assert_eq!(rt; book.features(), 1);

@@ -2,6 +2,7 @@
 use crate::tables::{column, holds_example};
 use book::{RuleBook, is_permitted, walk};
 use diagram::ColumnNode;
+use diagram_books::source::Source;
 use diagram_books::table::Table;
 use std::test::Fail;
 
@@ -9,7 +10,13 @@ use std::test::Fail;
 #[test]
 fn example(rt: HostRuntime) -> Result<(), Fail> {
     let product = examples::example();
-    let book = Table::in_memory(&product.counts, &product.columns, product.start).check()?;
+    let book = Table::new(
+        &product.counts,
+        &product.columns,
+        product.start,
+        Source::Memory,
+    )
+    .check()?;
     assert_eq!(rt; book.features(), 3);
     assert_eq!(rt; book.places(), 10);
     holds_example(&rt, &book);
@@ -46,7 +53,7 @@ fn chain_of_all() -> [ColumnNode; 16] {
 #[test]
 fn chain(rt: HostRuntime) -> Result<(), Fail> {
     let records = chain_of_all();
-    let book = Table::in_memory(&[16], &records, 2).check()?;
+    let book = Table::new(&[16], &records, 2, Source::Memory).check()?;
     for value in 0..16 {
         assert_eq!(rt; book.step(0, 2, value), Some(1));
         assert_eq!(rt; book.step(0, 10, value).is_some(), value >= 8);
@@ -62,7 +69,7 @@ fn starts(rt: HostRuntime) -> Result<(), Fail> {
     let records = [column(0, 0, 4, 3), column(0, 1, 4, 0), column(1, 0, 1, 0)];
     let counts = [2, 1];
     for (start, first, second) in [(0, false, false), (2, true, true), (3, false, true)] {
-        let book = Table::in_memory(&counts, &records, start).check()?;
+        let book = Table::new(&counts, &records, start, Source::Memory).check()?;
         assert_eq!(rt; is_permitted(&book, &[0, 0]), first);
         assert_eq!(rt; is_permitted(&book, &[1, 0]), second);
     }

@@ -13,18 +13,8 @@ fn feature_counts(rt: HostRuntime) -> Result<(), Fail> {
     let counts = [1; 25];
     for (n, passes) in [(0, false), (1, true), (24, true), (25, false)] {
         for (source, line) in [(Source::Memory, 0), (Source::Catalogue, 2)] {
-            let bits: BitTable<'_> = Table {
-                counts: &counts[0..n],
-                records: &[],
-                start: 1,
-                source,
-            };
-            let columns: ColumnTable<'_> = Table {
-                counts: &counts[0..n],
-                records: &[],
-                start: 0,
-                source,
-            };
+            let bits = BitTable::new(&counts[0..n], &[], 1, source);
+            let columns = ColumnTable::new(&counts[0..n], &[], 0, source);
             if passes {
                 bits.check()?;
                 columns.check()?;
@@ -42,8 +32,8 @@ fn feature_counts(rt: HostRuntime) -> Result<(), Fail> {
 fn value_counts(rt: HostRuntime) -> Result<(), Fail> {
     for (third, passes) in [(0, false), (1, true), (16, true), (17, false)] {
         let counts = [16, 1, third, 0];
-        let bits = BitTable::of_catalogue(&counts[0..3], &[], 1);
-        let columns = ColumnTable::of_catalogue(&counts[0..3], &[], 0);
+        let bits = BitTable::new(&counts[0..3], &[], 1, Source::Catalogue);
+        let columns = ColumnTable::new(&counts[0..3], &[], 0, Source::Catalogue);
         if passes {
             bits.check()?;
             columns.check()?;
@@ -54,7 +44,7 @@ fn value_counts(rt: HostRuntime) -> Result<(), Fail> {
     }
     refused(
         &rt,
-        Table::in_memory(&[0, 17], &[bit(9, 9, 9)], 9).check(),
+        Table::new(&[0, 17], &[bit(9, 9, 9)], 9, Source::Memory).check(),
         1,
         0,
         0,
@@ -66,27 +56,51 @@ fn value_counts(rt: HostRuntime) -> Result<(), Fail> {
 fn record_counts(rt: HostRuntime) -> Result<(), Fail> {
     let bits = [bit(0, 0, 1); 2047];
     assert_eq!(rt;
-        Table::of_catalogue(&[2], &bits[0..2046], 2)
+        Table::new(&[2], &bits[0..2046], 2, Source::Catalogue)
             .check()?
             .places(),
         2048
     );
-    refused(&rt, Table::of_catalogue(&[2], &bits, 2).check(), 2, 0, 4)?;
+    refused(
+        &rt,
+        Table::new(&[2], &bits, 2, Source::Catalogue).check(),
+        2,
+        0,
+        4,
+    )?;
     let columns = [column(0, 1, 1, 0); 2047];
     assert_eq!(rt;
-        Table::of_catalogue(&[2], &columns[0..2046], 2)
+        Table::new(&[2], &columns[0..2046], 2, Source::Catalogue)
             .check()?
             .places(),
         2048
     );
-    refused(&rt, Table::of_catalogue(&[2], &columns, 2).check(), 2, 0, 4)
+    refused(
+        &rt,
+        Table::new(&[2], &columns, 2, Source::Catalogue).check(),
+        2,
+        0,
+        4,
+    )
 }
 
 // Too many records are refused before any of them is looked at.
 #[test]
 fn records_unseen(rt: HostRuntime) -> Result<(), Fail> {
     let bits = [bit(9, 9, 9); 2047];
-    refused(&rt, Table::of_catalogue(&[2], &bits, 2).check(), 2, 0, 4)?;
+    refused(
+        &rt,
+        Table::new(&[2], &bits, 2, Source::Catalogue).check(),
+        2,
+        0,
+        4,
+    )?;
     let columns = [column(9, 9, 9, 9); 2047];
-    refused(&rt, Table::of_catalogue(&[2], &columns, 2).check(), 2, 0, 4)
+    refused(
+        &rt,
+        Table::new(&[2], &columns, 2, Source::Catalogue).check(),
+        2,
+        0,
+        4,
+    )
 }

@@ -6,6 +6,7 @@ ghost use Rattle.places.specs.Surveys.{AsksTables};
 use book::RuleBook;
 use catalogue::desk::DeskTables;
 use catalogue::entries::{Contents, Feature, Kind};
+use diagram_books::source::Source;
 use diagram_books::table::Table;
 use fault::Fault;
 
@@ -44,11 +45,11 @@ pub(crate) fn judge(contents: &Contents, tables: &DeskTables) -> Result<usize, F
     // the two tables are of two types, so that a match picks one, and no closure could
     match kind {
         Kind::Bit => {
-            let table = Table::of_catalogue(counts, &tables.bits[..records], start);
+            let table = Table::new(counts, &tables.bits[..records], start, Source::Catalogue);
             places_of(table.check())
         }
         Kind::Column => {
-            let table = Table::of_catalogue(counts, &tables.columns[..records], start);
+            let table = Table::new(counts, &tables.columns[..records], start, Source::Catalogue);
             places_of(table.check())
         }
     }

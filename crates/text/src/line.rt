@@ -63,7 +63,9 @@ impl<'a> Line<'a> {
             (λ f. left self.old ≡ f.now ∷ left self.new)
             (λ f. IllFormed self.old f × (left self.old ≡ [])) }
     {
-        let bytes = self.rest.ok_or(self.ill_formed())?;
+        let Some(bytes) = self.rest else {
+            return Err(self.ill_formed());
+        };
         let (field, more) = cut(bytes);
         self.rest = more;
         Ok(field)
@@ -82,7 +84,10 @@ impl<'a> Line<'a> {
             Want::Number => number_in(field).map(|n| Token::Number(field, n)),
             Want::Word => Some(Token::Word(field)),
         };
-        token.ok_or(self.ill_formed())
+        match token {
+            Some(token) => Ok(token),
+            None => Err(self.ill_formed()),
+        }
     }
 
     // `number`, `name` and `word` stay three functions: each takes another case of `Token` apart, and gives what it holds.

@@ -35,7 +35,9 @@ impl<'a> Reader<'a> {
             (λ f. WrongEnd self.old f × Lacks 10 (rest self.old) × (self.new ≡ self.old)) }
     {
         let left = &self.text[self.at..];
-        let n = place_of(left, b'\n').ok_or(self.wrong_end())?;
+        let Some(n) = place_of(left, b'\n') else {
+            return Err(self.wrong_end());
+        };
         let start = self.at;
         self.at += n + 1;
         self.line += 1;
