@@ -14,7 +14,7 @@ pub struct Diagram<'a, N: Node<I>, I: Copy> {
     pub(crate) records: &'a [N],
     pub(crate) start: u32,
     pub(crate) index: I,
-    ghost well: { Well N.form counts.now records.now start } by { N.well_once counts.now records.now start },
+    pub ghost well: { Well N.form counts.now records.now start } by { N.well_once counts.now records.now start },
     ghost known: { N.indexed counts.now index } by { N.indexed_once counts.now index },
 }
 

@@ -3,7 +3,7 @@ ghost use Rattle.std.specs.Prelude.{◌≡◌};
 ghost use Rattle.diagram_books.specs.Checks.{line_in};
 
 // A table that was read from a catalogue has a line for each entry, which its faults name; one that was made in memory has
-// none, and its faults have line 0: a number and no Option, since a fault prints four numbers always.
+// none, and its faults have line 0: a number and no Option, since a fault always prints a line.
 #[derive(Clone, Copy, Debug)]
 pub enum Source {
     Catalogue,

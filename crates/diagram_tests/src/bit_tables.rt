@@ -68,11 +68,13 @@ fn starts(rt: HostRuntime) -> Result<(), Fail> {
 #[test]
 fn memory(rt: HostRuntime) -> Result<(), Fail> {
     let records = [bit(0, 0, 9)];
-    let checked = Table::new(&[4, 1, 2], &records, 2, Source::Memory).check();
+    let table = Table::new(&[4, 1, 2], &records, 2, Source::Memory);
+    let checked = table.check();
     refused(&rt, checked, 4, 0, 0)?;
-    let book = checked.unwrap_or(BitDiagram::nothing());
-    assert_eq!(rt; book.features(), 1);
-    assert_eq!(rt; book.start(), None);
+    for book in [table.book(), checked.unwrap_or(BitDiagram::nothing())] {
+        assert_eq!(rt; book.features(), 1);
+        assert_eq!(rt; book.start(), None);
+    }
     Ok(())
 }
 
@@ -80,18 +82,19 @@ fn memory(rt: HostRuntime) -> Result<(), Fail> {
 #[test]
 fn example(rt: HostRuntime) -> Result<(), Fail> {
     let product = examples::example();
-    let book = Table::new(
+    let table = Table::new(
         &product.counts,
         &product.bits,
         product.start,
         Source::Memory,
-    )
-    .check()?;
-    assert_eq!(rt; book.features(), 3);
-    assert_eq!(rt; book.values(0), 3);
-    assert_eq!(rt; book.values(2), 2);
-    assert_eq!(rt; book.values(3), 0);
-    assert_eq!(rt; book.places(), 5);
-    assert_eq!(rt; book.start(), Some(2));
+    );
+    for book in [table.check()?, table.book()] {
+        assert_eq!(rt; book.features(), 3);
+        assert_eq!(rt; book.values(0), 3);
+        assert_eq!(rt; book.values(2), 2);
+        assert_eq!(rt; book.values(3), 0);
+        assert_eq!(rt; book.places(), 5);
+        assert_eq!(rt; book.start(), Some(2));
+    }
     Ok(())
 }

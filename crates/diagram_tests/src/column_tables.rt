@@ -113,10 +113,12 @@ fn starts(rt: HostRuntime) -> Result<(), Fail> {
 #[test]
 fn memory(rt: HostRuntime) -> Result<(), Fail> {
     let records = [column(1, 0, 0, 0)];
-    let checked = Table::new(&[3, 2], &records, 0, Source::Memory).check();
+    let table = Table::new(&[3, 2], &records, 0, Source::Memory);
+    let checked = table.check();
     refused(&rt, checked, 4, 0, 0)?;
-    let book = checked.unwrap_or(ColumnDiagram::nothing());
-    assert_eq!(rt; book.features(), 1);
-    assert_eq!(rt; book.start(), None);
+    for book in [table.book(), checked.unwrap_or(ColumnDiagram::nothing())] {
+        assert_eq!(rt; book.features(), 1);
+        assert_eq!(rt; book.start(), None);
+    }
     Ok(())
 }

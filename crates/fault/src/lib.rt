@@ -31,8 +31,8 @@ impl fmt::Display for Layer {
 
 // What is wrong. Each case answers no to one numbered question (`specs/Told.antt` has the numbers, layers, places and
 // lines), and holds just the values that its place and its line need: the index of a feature or of a record, and the
-// line of the catalogue, counted from 1 (0 where there is no catalogue). What is printed is four numbers always, so that 0
-// stands for no place and for no line, and no Option does.
+// line of the catalogue, counted from 1 (0 where there is no catalogue). What is printed is a number, a word and two numbers
+// always, so that 0 stands for no place and for no line, and no Option does.
 #[derive(Clone, Copy, Debug)]
 pub enum Fault {
     // There are no features, or too many.

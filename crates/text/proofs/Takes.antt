@@ -1,8 +1,11 @@
 -- A reader, line after line. Assumes nothing.
-use Rattle.std.proofs.Common.{◌≡◌, ℕ, ◌+◌, List, ◌++◌, length, sym, ap, ◌∙◌, append_assoc, arith, length-append}
+use Rattle.std.proofs.Common.{◌≡◌, ℕ, ◌+◌, List, [], ◌++◌, length, sym, refl, ap, ◌∙◌, append_assoc, arith, length-append}
 use Rattle.text.specs.declared.reader.Reader.{Reader}
 use Rattle.text.specs.Lines.{text_of, rest, Took}
 use Rattle.text.proofs.Layouts.{text-append}
+
+pub took_none : (a : Reader) → Took a a []
+took_none a = record { same = refl; front = refl; at = omega arith; line = omega arith }
 
 pub took_more : (a b c : Reader) (ls ms : List (List ℕ)) → Took a b ls → Took b c ms → Took a c (ls ++ ms)
 took_more a b c ls ms p q =

@@ -1,6 +1,6 @@
-use Rattle.std.proofs.Common.{⊎_elim, inl, inr}
+use Rattle.std.proofs.Common.{rules}
+use Rattle.counter.proofs.Found.{surveyed}
 use Rattle.counter.proofs.survey.survey.Goals as goal
 
 pub returns : goal.returns
-returns c =
-    ⊎_elim (λ w. inl (record { short = w.short; after = _; judged = w.judged })) (λ w. inr w.too_long) (rw c.blank.ensures at c.take.ensures)
+returns c = surveyed c.args.text.now _ _ c.take.result _ c.take.ensures c.blank.ensures (search rules)

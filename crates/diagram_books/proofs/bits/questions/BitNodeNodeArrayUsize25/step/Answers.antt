@@ -1,4 +1,4 @@
-use Rattle.std.proofs.Common.{◌+◌, ◌<◌, length, get_or, sym, ap, ◌∙◌, arith}
+use Rattle.std.proofs.Common.{◌+◌, ◌<◌, get_or, sym, ap, ◌∙◌, arith}
 use Rattle.node.specs.Forms.{place_of_link}
 use Rattle.node.proofs.BitFollows.{linked_of}
 use Rattle.node.proofs.BitLaws.{opens_some, step_by}
